@@ -1,0 +1,21 @@
+-- The lemmas, from lists up to the theorems.
+pub mod Lists
+pub mod Sums
+pub mod Sets
+pub mod Loads
+pub mod Moving
+pub mod Lower
+pub mod Through
+pub mod Puts
+pub mod Ends
+pub mod Fill
+pub mod Empty
+pub mod Single
+pub mod Right
+pub mod Can
+pub mod Whole
+pub mod Keeps
+pub mod Changes
+pub mod Spring
+pub mod Wrong
+pub mod Cheats

@@ -1,0 +1,2 @@
+-- The modules of these proofs.
+mod Row

@@ -1,0 +1,4 @@
+-- The modules of these definitions.
+pub mod Model
+pub mod Sound
+pub mod Laws

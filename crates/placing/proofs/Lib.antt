@@ -1,0 +1,4 @@
+mod Running
+mod Steps
+mod Taking
+mod Telling

@@ -1,0 +1,67 @@
+-- A run of the machine, act by act, as the code makes it.
+use mathlib.Core.Path.{_≡_, refl, ap, _∙_}
+use mathlib.Core.Bool.{_&&_}
+use mathlib.Core.List.{List, [], _∷_, _++_}
+use Prim.Native.Nat.{ℕ, suc, _<_}
+use lib.Dec.{leb, ltb}
+use lib.ListN.{length}
+use Rattle.hall.specs.House.{pick, each, Move}
+use Rattle.hall.specs.Promise.{Event, Step, next, Ran, ran, one-act, runs}
+use Rattle.machine.specs.Machine.{turn-of}
+use Rattle.machine.specs.Lifting.{event-number}
+use Rattle.placing_model.specs.Parts.{parts}
+use Rattle.placing_model.specs.Memory.{cut}
+use Rattle.placing_model.specs.Own.{own}
+use Rattle.placing.specs.Acts.{Takes, act-of, refusal-number}
+use Rattle.placing.specs.Runs.{moves-of}
+use Rattle.placing.specs.declared.acts.Act.{Act}
+use Rattle.placing.specs.declared.acts.Act.the-variants.{Puts, Done, Refused}
+use Rattle.placing.specs.declared.acts.Refusal.{Refusal}
+use Rattle.placing.specs.declared.acts.Refusal.the-variants.{Busy, NotThere, AlreadyThere, NoShelf, LastShelf, Full}
+use Rattle.placing.specs.declared.acts.Spot.{Spot}
+use Rattle.placing.proofs.Steps.{own-takes}
+
+moves-more : (ps : List Spot) (p : Spot) → moves-of (ps ++ p ∷ []) ≡ moves-of ps ++ record { good = p .good; to = p .shelf } ∷ []
+unfolding each
+moves-more [] p = refl
+moves-more (q ∷ ps) p = ap (λ ms. record { good = q .good; to = q .shelf } ∷ ms) (moves-more ps p)
+
+told-number : (why : Refusal) → pick (leb 1 (refusal-number why) && ltb (refusal-number why) 1000) (refusal-number why) 1001 ≡ refusal-number why
+told-number Busy = refl
+told-number NotThere = refl
+told-number AlreadyThere = refl
+told-number NoShelf = refl
+told-number LastShelf = refl
+told-number Full = refl
+
+-- one act of a run that has some left
+module _ (k n : ℕ) (m m₁ : List ℕ) (ev : Event) (ms : List Move) (left : k ≡ suc n) (h : length m ≡ 239635) (h₁ : length m₁ ≡ 239635) (small : event-number ev < 18446744073709551616) where
+  runs-act : (act : Act) → Takes m₁ act (turn-of parts (cut m) ev) → runs k own m ev ms ≡ one-act (λ m₂ ms₂. runs n own m₂ next ms₂) ms m₁ (act-of act)
+  unfolding runs
+  runs-act act t =
+      let s = own-takes m m₁ act ev h h₁ small t in
+      rw left (ap (λ (s : Step). one-act (λ m₂ ms₂. runs n own m₂ next ms₂) ms (s .memory) (s .act)) s)
+
+  pub runs-puts : (p : Spot) → Takes m₁ (Puts p) (turn-of parts (cut m) ev) → runs k own m ev ms ≡ runs n own m₁ next (ms ++ record { good = p .good; to = p .shelf } ∷ [])
+  unfolding one-act
+  runs-puts p t = runs-act (Puts p) t
+
+  pub runs-done : Takes m₁ Done (turn-of parts (cut m) ev) → runs k own m ev ms ≡ ran m₁ ms 0
+  unfolding one-act
+  runs-done t = runs-act Done t
+
+  pub runs-refused : (why : Refusal) → Takes m₁ (Refused why) (turn-of parts (cut m) ev) → runs k own m ev ms ≡ ran m₁ ms (refusal-number why)
+  unfolding one-act
+  runs-refused why t = runs-act (Refused why) t ∙ ap (ran m₁ ms) (told-number why)
+
+pub runs-none : (k : ℕ) (m : List ℕ) (ev : Event) (ms : List Move) → k ≡ 0 → runs k own m ev ms ≡ ran m ms 1000
+unfolding runs
+runs-none k m ev ms e = rw e refl
+
+pub runs-on : (k : ℕ) (m : List ℕ) (ps qs : List Spot) (p : Spot) (r : Ran) → qs ≡ ps ++ p ∷ [] →
+    runs k own m next (moves-of ps ++ record { good = p .good; to = p .shelf } ∷ []) ≡ r → runs k own m next (moves-of qs) ≡ r
+runs-on k m ps qs p r q h = rw (q, moves-more ps p) h
+
+pub start-runs : (n k : ℕ) (m : List ℕ) (ev : Event) (ps : List Spot) → n ≡ k → ps ≡ [] → runs n own m ev (moves-of ps) ≡ runs k own m ev []
+unfolding each
+start-runs n k m ev ps e q = rw (e, q) refl

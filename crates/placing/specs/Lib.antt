@@ -1,0 +1,4 @@
+pub mod Acts
+pub mod Entry
+pub mod Runs
+pub mod Halls

@@ -1,0 +1,4 @@
+pub mod Memory
+pub mod Laws
+pub mod Own
+pub mod Reaching

@@ -1,0 +1,5 @@
+pub mod Parts
+pub mod Memory
+pub mod Own
+pub mod Claims
+pub mod Reached

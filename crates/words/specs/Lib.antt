@@ -1,0 +1,3 @@
+pub mod Small
+pub mod Slots
+pub mod Parts
