@@ -11,8 +11,8 @@ use Rattle.std.proofs.shelf.Tests.{cases-eq, cases-lt, cond-true, cond-false, e
 use Rattle.std.proofs.shelf.Ways.{tells}
 use Rattle.words.specs.Small.{Small, Kept}
 use Rattle.words.proofs.Laws.{small-set}
-use Rattle.index_model.specs.Model.{capacity, word, row, slot-of, slot-at, number-at, free-at, count-at, locate-in, slot-for, find-at, put, name-slot, register, hang, next-slot, take-slot, slot-to, insert-slot, insert-in, unhang, give-slot, remove-in}
-use Rattle.index_model.specs.Laws.{Bound-law, Narrow-law}
+use Rattle.index_model.specs.Model.{heads, capacity, word, row, slot-of, slot-at, number-at, free-at, count-at, locate-in, slot-for, find-at, put, name-slot, register, hang, next-slot, take-slot, slot-to, insert-slot, insert-in, unhang, give-slot, remove-in}
+use Rattle.index_model.specs.Laws.{Room-law, Bound-law, Narrow-law}
 use Rattle.index_model.proofs.Words.{slot-small, length-name, length-register, keeps-unhang, unhang-by}
 use Rattle.index_model.proofs.Inserts.{take-fresh, take-free, hang-keeps}
 use Rattle.index_model.proofs.Removes.{free-small}
@@ -106,6 +106,10 @@ module _ (bits : ℕ) where
   kept-give m l s h k =
       kept-register m _ 2 _ (λ w. small-count l (k .small w))
       (kept-register m _ 1 s h (kept-name m l s _ (λ w. small-free l (k .small w)) k))
+
+pub room-law : Room-law
+unfolding heads
+room-law bits m rows e = omega arith
 
 pub bound-law : Bound-law
 unfolding find-at insert-slot

@@ -7,7 +7,7 @@ use lib.ListN.{length, getD}
 use Rattle.std.specs.declared.option.Option.{Option}
 use Rattle.std.specs.declared.option.Option.the-variants.{Some, None}
 use Rattle.words.specs.Small.{Small, Kept}
-use Rattle.index_model.specs.Model.{capacity, key, number-at, count-at, find-at, insert-slot, insert-in, remove-in}
+use Rattle.index_model.specs.Model.{width, capacity, key, number-at, count-at, find-at, insert-slot, insert-in, remove-in}
 use Rattle.index_model.specs.Sound.{Sound-in, Inside, Distinct}
 
 -- the number of a key
@@ -97,6 +97,11 @@ pub record Refused (bits : ℕ) (m : List ℕ) (n : ℕ) : Type 0 where
 
 abbrev pub Refuse-law : Type 0
 Refuse-law = (bits : ℕ) (m : List ℕ) (n : ℕ) → Refused bits m n
+
+-- the words that so many rows take
+abbrev pub Room-law : Type 0
+Room-law =
+    (bits : ℕ) (m : List ℕ) (rows : ℕ) → length m ≡ 2 ^ width bits + 3 * (rows + 1) + 3 → capacity bits m ≡ rows
 
 -- whatever the memory holds: slots are within the capacity, and the memory stays as long as it was
 pub record Bounded (bits : ℕ) (m : List ℕ) (n : ℕ) : Type 0 where

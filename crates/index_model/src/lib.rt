@@ -1,5 +1,5 @@
 // The laws of the index, over its model: no running code, each theorem on the contract of a small function.
-ghost use Rattle.index_model.specs.Laws.{Key-law, Empty-law, Found-law, Apart-law, Count-law, Insert-law, Remove-law, Refuse-law, Bound-law, Narrow-law};
+ghost use Rattle.index_model.specs.Laws.{Key-law, Empty-law, Found-law, Apart-law, Count-law, Insert-law, Remove-law, Refuse-law, Room-law, Bound-law, Narrow-law};
 
 // A number of 64 bits has a key of its own.
 pub fn key_law_stands() -> u8
@@ -53,6 +53,13 @@ pub fn remove_law_stands() -> u8
 // What is refused changes nothing.
 pub fn refuse_law_stands() -> u8
     ensures { λ _. ⌜ Refuse-law ⌝ }
+{
+    0
+}
+
+// So many words hold so many rows.
+pub fn room_law_stands() -> u8
+    ensures { λ _. ⌜ Room-law ⌝ }
 {
     0
 }

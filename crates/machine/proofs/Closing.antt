@@ -1,4 +1,4 @@
--- A shelf goes: refused as it should be, or each of its goods goes to an emptiest. Assumes nothing.
+-- A shelf goes: refused as it should be, or each of its goods goes to an emptiest.
 use mathlib.Core.Path.{_≡_, refl, ap, _∙_}
 use mathlib.Core.Bool.{Bool, true, false, _&&_, not}
 use mathlib.Core.List.{List, [], _∷_}

@@ -1,4 +1,4 @@
--- Where a good is, a good that comes, a good that goes: refused as it should be, or greedy. Assumes nothing.
+-- Where a good is, a good that comes, a good that goes: refused as it should be, or greedy.
 use mathlib.Core.Path.{_≡_, refl, sym, ap, _∙_}
 use mathlib.Core.Bool.{true, false}
 use mathlib.Core.List.{List, [], _∷_}

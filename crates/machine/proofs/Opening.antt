@@ -1,4 +1,4 @@
--- A shelf comes: refused as it should be, or it gets its share, each time from a fullest. Assumes nothing.
+-- A shelf comes: refused as it should be, or it gets its share, each time from a fullest.
 use mathlib.Core.Path.{_≡_, refl, ap, _∙_}
 use mathlib.Core.Bool.{true, false}
 use mathlib.Core.List.{List, [], _∷_, _++_}

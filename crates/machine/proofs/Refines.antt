@@ -1,4 +1,4 @@
--- The machine keeps the whole promise. Assumes nothing but the interfaces' laws.
+-- The machine keeps the whole promise.
 use mathlib.Core.Path.{_≡_, refl, sym, ap, subst, _∙_}
 use mathlib.Core.Bool.{true}
 use mathlib.Core.List.{List, [], _∷_, _++_}

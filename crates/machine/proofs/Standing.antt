@@ -1,4 +1,4 @@
--- What each change makes of the rows and contents that stand for goods on shelves. Assumes nothing.
+-- What each change makes of the rows and contents that stand for goods on shelves.
 use mathlib.Core.Path.{_≡_, refl, sym, ap, _∙_}
 use mathlib.Core.Bool.{Bool, true, false, not}
 use mathlib.Core.List.{List, [], _∷_, _++_}

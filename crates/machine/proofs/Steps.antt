@@ -1,4 +1,4 @@
--- One act: a good of a fullest shelf goes to a shelf, or one of a shelf to an emptiest. Assumes nothing.
+-- One act: a good of a fullest shelf goes to a shelf, or one of a shelf to an emptiest.
 use mathlib.Core.Path.{_≡_, refl, sym, ap, _∙_}
 use mathlib.Core.Bool.{true, false}
 use mathlib.Core.List.{List}

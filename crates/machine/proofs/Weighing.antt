@@ -1,4 +1,4 @@
--- What each change makes of the loads that stand for the shelves. Assumes nothing.
+-- What each change makes of the loads that stand for the shelves.
 use mathlib.Core.Path.{_≡_, sym, ap, _∙_}
 use mathlib.Core.Bool.{true, false, not}
 use mathlib.Core.List.{List, [], _∷_, _++_}

@@ -1,4 +1,4 @@
--- How a command goes, act by act: it puts exactly as many goods as it has to, and then it is done. Assumes nothing: these are definitions.
+-- How a command goes, act by act: it puts exactly as many goods as it has to, and then it is done.
 use mathlib.Core.Path.{_≡_}
 use mathlib.Core.Bool.{true}
 use mathlib.Core.List.{List, [], _∷_}

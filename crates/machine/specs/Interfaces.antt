@@ -1,4 +1,4 @@
--- What the machine asks of an index, of loads and of contents: the operations, and the laws they are to obey. Assumes nothing: these are definitions.
+-- What the machine asks of an index, of loads and of contents: the operations, and the laws they are to obey.
 use mathlib.Core.Path.{_≡_}
 use mathlib.Core.Logic.{_≢_}
 use Prim.Native.Nat.{ℕ, suc, _-_, _≤_, _<_}

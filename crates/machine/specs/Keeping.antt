@@ -1,4 +1,4 @@
--- Properties of the parts that every operation keeps. Assumes nothing: these are definitions.
+-- Properties of the parts that every operation keeps.
 use Prim.Native.Nat.{ℕ}
 use Rattle.machine.specs.Interfaces.{Index, Loads, Contents, Parts}
 use Rattle.machine.specs.Machine.{State}

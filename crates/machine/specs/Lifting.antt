@@ -1,4 +1,4 @@
--- An engine over a memory of words that takes the machine's turns. Assumes nothing: these are definitions.
+-- An engine over a memory of words that takes the machine's turns.
 use mathlib.Core.Path.{_≡_}
 use mathlib.Core.Bool.{Bool, true, false}
 use mathlib.Core.List.{List}

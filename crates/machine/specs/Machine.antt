@@ -1,4 +1,4 @@
--- The machine over an index of goods, one of shelves, loads and contents: what it does at each event. Assumes nothing: these are definitions.
+-- The machine over an index of goods, one of shelves, loads and contents: what it does at each event.
 use mathlib.Core.Bool.{_&&_, not}
 use Prim.Native.Nat.{ℕ, suc}
 use lib.Dec.{eqb, ltb, leb}

@@ -1,4 +1,4 @@
--- When a state of the machine holds a store: pointwise, up to the order of the lists. Assumes nothing: these are definitions.
+-- When a state of the machine holds a store: pointwise, up to the order of the lists.
 use mathlib.Core.Path.{_≡_}
 use mathlib.Core.Bool.{true}
 use mathlib.Core.List.{List, [], _∷_}

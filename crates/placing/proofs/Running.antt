@@ -21,10 +21,11 @@ use Rattle.placing.specs.declared.acts.Refusal.the-variants.{Busy, NotThere, A
 use Rattle.placing.specs.declared.acts.Spot.{Spot}
 use Rattle.placing.proofs.Steps.{own-takes}
 
-moves-more : (ps : List Spot) (p : Spot) → moves-of (ps ++ p ∷ []) ≡ moves-of ps ++ record { good = p .good; to = p .shelf } ∷ []
+-- one more at the end of a list
+pub each-more : {A B : Type 0} (f : A → B) (xs : List A) (x : A) → each f (xs ++ x ∷ []) ≡ each f xs ++ f x ∷ []
 unfolding each
-moves-more [] p = refl
-moves-more (q ∷ ps) p = ap (λ ms. record { good = q .good; to = q .shelf } ∷ ms) (moves-more ps p)
+each-more f [] x = refl
+each-more f (y ∷ xs) x = ap (λ ys. f y ∷ ys) (each-more f xs x)
 
 told-number : (why : Refusal) → pick (leb 1 (refusal-number why) && ltb (refusal-number why) 1000) (refusal-number why) 1001 ≡ refusal-number why
 told-number Busy = refl
@@ -60,7 +61,7 @@ runs-none k m ev ms e = rw e refl
 
 pub runs-on : (k : ℕ) (m : List ℕ) (ps qs : List Spot) (p : Spot) (r : Ran) → qs ≡ ps ++ p ∷ [] →
     runs k own m next (moves-of ps ++ record { good = p .good; to = p .shelf } ∷ []) ≡ r → runs k own m next (moves-of qs) ≡ r
-runs-on k m ps qs p r q h = rw (q, moves-more ps p) h
+runs-on k m ps qs p r q h = rw (q, each-more {B = Move} (λ p. record { good = p .good; to = p .shelf }) ps p) h
 
 pub start-runs : (n k : ℕ) (m : List ℕ) (ev : Event) (ps : List Spot) → n ≡ k → ps ≡ [] → runs n own m ev (moves-of ps) ≡ runs k own m ev []
 unfolding each

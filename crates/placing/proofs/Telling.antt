@@ -1,19 +1,36 @@
 -- What telling a command leaves of a hall that is reached.
 use mathlib.Core.Path.{_≡_, refl, sym, subst}
-use mathlib.Core.List.{List, []}
+use mathlib.Core.List.{List, [], _∷_, _++_}
 use mathlib.Core.Logic.{∥∥₁-map, ∥∥₁-elim}
-use Prim.Native.Nat.{ℕ, _<_}
+use Prim.Native.Nat.{ℕ, _+_, _≤_, _<_}
 use base.Stored.{coded-set, codedList, codedℕ}
+use native.Mathlib.Omega.{arith}
 use lib.Dec.{lit<}
-use Rattle.hall.specs.House.{Store, Command, Move}
+use lib.ListN.{length, getD, take}
+use Rattle.std.proofs.shelf.Lists.{take-more, take-all}
+use Rattle.std.specs.declared.alloc.Global.{Global}
+use Rattle.std.specs.declared.option.Option.the-variants.{Some}
+use Rattle.std.specs.declared.result.Result.{Result}
+use Rattle.std.specs.declared.result.Result.the-variants.{Ok, Err}
+use Rattle.std.specs.declared.vec.Vec.{Vec}
+use Rattle.hall.specs.House.{each, Store, Command, Move}
 use Rattle.hall.specs.Promise.{said, ran, runs, number-of, then-store}
+use Rattle.machine.specs.Acts.{nothing}
 use Rattle.placing_model.specs.Own.{own}
-use Rattle.placing_model.specs.Reached.{Reached, refusing, Answered, acts-of}
-use Rattle.placing_model.proofs.Reaching.{run-done, run-refused, run-ends}
-use Rattle.placing.specs.Acts.{refusal-number}
+use Rattle.placing_model.specs.Reached.{Reached, refusing, Answered, hall-then, acts-of}
+use Rattle.placing_model.proofs.Reaching.{run-done, run-refused, run-ends, carried-more, carried-none}
+use Rattle.placing.specs.Acts.{refusal-number, command-of}
 use Rattle.placing.specs.Runs.{ending-number}
+use Rattle.placing.specs.Halls.{answer-of, answer-as, answers-of, outcome-from, commands-of, All-told, Goes-on}
 use Rattle.placing.specs.declared.acts.Refusal.{Refusal}
 use Rattle.placing.specs.declared.acts.Refusal.the-variants.{Busy, NotThere, AlreadyThere, NoShelf, LastShelf, Full}
+use Rattle.placing.specs.declared.acts.Command as told
+use Rattle.placing.specs.declared.acts.Spot.{Spot}
+use Rattle.placing.specs.declared.owner.telling.Failure.{Failure}
+use Rattle.placing.specs.declared.owner.telling.Failure.the-variants.{Refused as Declined, NoMemory}
+use Rattle.placing.specs.declared.owner.telling.Outcome.{Outcome}
+use Rattle.placing.specs.declared.owner.telling.Outcome.the-variants.{Put, Refused as Noted}
+use Rattle.placing.proofs.Running.{each-more}
 use Rattle.placing.specs.declared.runs.Ending.{Ending}
 use Rattle.placing.specs.declared.runs.Ending.the-variants.{Done, Refused, Unfinished}
 
@@ -50,3 +67,29 @@ module _ (m m₁ : List ℕ) (c : Command) (ms : List Move) (n : number-of c < 1
 pub as-run : (a b : ℕ) (m k m₁ k₁ : List ℕ) (c : Command) (ms : List Move) (n : ℕ) → a ≡ b → m ≡ k → k₁ ≡ m₁ →
     runs a own m (said c) [] ≡ ran m₁ ms n → runs b own k (said c) [] ≡ ran k₁ ms n
 as-run a b m k m₁ k₁ c ms n e f g h = rw (← e, ← f, g) h
+
+-- an answer and the outcome that is noted of it are one
+outcome-answer : (told : Result (Vec Spot Global) Failure) (o : Outcome) → Some o ≡ outcome-from told → answer-of told ≡ answer-as o
+outcome-answer (Ok moves) o e = let q : o ≡ Put moves = cc in rw q refl
+outcome-answer (Err (Declined why)) o e = let q : o ≡ Noted why = cc in rw q refl
+outcome-answer (Err NoMemory) o e = absurd (let z : _≡_ {A = ℕ} 0 1 = cc in omega arith)
+
+pub goes-on : (m m₁ : List ℕ) (os os₁ : List Outcome) (c : Command) (told : Result (Vec Spot Global) Failure) (o : Outcome) →
+    ((s : Store) → Reached m s → Answered s c (answer-of told) × Reached m₁ (hall-then s c (answer-of told))) → Some o ≡ outcome-from told → os₁ ≡ os ++ o ∷ [] →
+    Goes-on m os c m₁ os₁
+goes-on m m₁ os os₁ c told o right e q cs h =
+    let x = right (h .0) (h .2) in
+    let a = outcome-answer told o e in
+    (hall-then (h .0) c (answer-of told), rw (q, each-more answer-as os o, ← a) (carried-more nothing cs (answers-of os) (h .0) c (answer-of told) (h .1) (x .0)), x .1)
+
+pub told-none : (m : List ℕ) (os : List Outcome) → os ≡ [] → Reached m nothing → All-told [] m os
+unfolding each
+told-none m os e r = (nothing, rw e (carried-none nothing), r)
+
+-- the commands up to a place of a list, one more, and all
+pub told-more : (xs : List told.Command) (i : ℕ) (d : told.Command) (m : List ℕ) (os : List Outcome) → i < length xs →
+    All-told (commands-of (take i xs) ++ command-of (getD xs i d) ∷ []) m os → All-told (commands-of (take (i + 1) xs)) m os
+told-more xs i d m os h a = rw (take-more xs i d h, each-more command-of (take i xs) (getD xs i d)) a
+
+pub told-all : (xs : List told.Command) (i : ℕ) (m : List ℕ) (os : List Outcome) → length xs ≤ i → All-told (commands-of (take i xs)) m os → All-told (commands-of xs) m os
+told-all xs i m os h a = let e : take i xs ≡ xs = take-all i xs h in rw e at a

@@ -1,4 +1,4 @@
--- How a step of the machine is told to the world outside. Assumes nothing: these are definitions.
+-- How a step of the machine is told to the world outside.
 use mathlib.Core.Path.{_≡_}
 use mathlib.Core.Bool.{Bool, true, false, _&&_}
 use mathlib.Core.List.{List, _∷_}

@@ -13,3 +13,5 @@ pub use acts::Told;
 pub use entry::step;
 pub use owner::Failure;
 pub use owner::Hall;
+pub use owner::Outcome;
+pub use owner::carry_out;

@@ -8,6 +8,8 @@ ghost use Rattle.placing_model.specs.Reached.{Reached};
 mod telling;
 
 pub use telling::Failure;
+pub use telling::Outcome;
+pub use telling::carry_out;
 
 #[derive(Drop)]
 pub struct Hall {

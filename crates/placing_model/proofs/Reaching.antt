@@ -1,5 +1,5 @@
 -- A run of a command, from a hall that is reached, is answered right, and reaches the hall after it.
-use mathlib.Core.Path.{_≡_, refl, sym, ap, _∙_}
+use mathlib.Core.Path.{_≡_, refl, sym, ap, subst, _∙_}
 use mathlib.Core.List.{List, [], _∷_, _++_}
 use Prim.Native.Nat.{ℕ, suc, _<_}
 use native.Mathlib.Omega.{arith}
@@ -15,7 +15,7 @@ use Rattle.machine.proofs.Acts.{Good, start-good, after-good, serves-good, refu
 use Rattle.machine.proofs.Refines.{refusal-small}
 use Rattle.placing_model.specs.Parts.{parts}
 use Rattle.placing_model.specs.Own.{own}
-use Rattle.placing_model.specs.Reached.{Reached, putting, refusing, Answered, acts-of}
+use Rattle.placing_model.specs.Reached.{Reached, Answer, putting, refusing, Answered, hall-then, Carried-out, acts-of}
 use Rattle.placing_model.proofs.Laws.{lawful}
 use Rattle.placing_model.proofs.Memory.{joined-length}
 use Rattle.placing_model.proofs.Own.{own-lifts}
@@ -90,3 +90,16 @@ module _ (m m₁ : List ℕ) (s : Store) (c : Command) (ms : List Move) (k : ℕ
 
   pub run-ends : k ≡ 1000 → ⊥
   run-ends e = let a = run-refused (omega arith) .0 .1 in let b = refusal-small s c in omega arith
+
+-- one command more at the end of a list
+pub carried-more : (s : Store) (cs : List Command) (as₁ : List Answer) (t : Store) (c : Command) (a : Answer) → Carried-out s cs as₁ t → Answered t c a →
+    Carried-out s (cs ++ c ∷ []) (as₁ ++ a ∷ []) (hall-then t c a)
+unfolding Carried-out
+carried-more s [] [] t c a h r = subst (λ x. Answered x c a × (hall-then x c a ≡ hall-then t c a)) (sym h) (r, refl)
+carried-more s [] (b ∷ as₁) t c a h r = absurd h
+carried-more s (d ∷ cs) [] t c a h r = absurd h
+carried-more s (d ∷ cs) (b ∷ as₁) t c a h r = (h .0, carried-more (hall-then s d b) cs as₁ t c a (h .1) r)
+
+pub carried-none : (s : Store) → Carried-out s [] [] s
+unfolding Carried-out
+carried-none s = refl

@@ -1,4 +1,4 @@
--- The machine's memory: two registers and the four parts, one after the other. Assumes nothing: these are definitions.
+-- The machine's memory: two registers and the four parts, one after the other.
 use mathlib.Core.List.{List, [], _∷_}
 use mathlib.Core.Path.{_≡_}
 use Prim.Native.Nat.{ℕ}

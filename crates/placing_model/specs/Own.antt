@@ -1,4 +1,4 @@
--- THE MACHINE ITSELF: its memory at the start, and what a step makes of every memory at every event. Assumes nothing: these are definitions.
+-- THE MACHINE ITSELF: its memory at the start, and what a step makes of every memory at every event.
 use mathlib.Core.List.{List}
 use mathlib.Core.Bool.{Bool, true, false, _&&_}
 use Prim.Native.Nat.{ℕ}

@@ -1,4 +1,4 @@
--- The machine's parts as regions of words: an index of goods, an index of shelves, loads and contents. Assumes nothing: these are definitions.
+-- The machine's parts as regions of words: an index of goods, an index of shelves, loads and contents.
 use mathlib.Core.List.{List}
 use Prim.Native.Nat.{ℕ}
 use lib.ListN.{replicate}

@@ -1,6 +1,6 @@
--- The halls that are reached by telling commands from the empty hall on, and how a command is answered there. Assumes nothing: these are definitions.
+-- The halls that are reached by telling commands from the empty hall on, and how a command is answered there.
 use mathlib.Core.Path.{_≡_}
-use mathlib.Core.List.{List}
+use mathlib.Core.List.{List, [], _∷_}
 use Prim.Native.Nat.{ℕ, _<_}
 use lib.ListN.{length}
 use Rattle.hall.specs.House.{Store, Command, comes, goes, shelf-comes, shelf-goes, where-is, Move, refusal, asks}
@@ -33,6 +33,13 @@ abbrev pub hall-then : Store → Command → Answer → Store
 hall-then s c (putting ms) = then-store s c ms
 hall-then s c (refusing k) = s
 hall-then s c wanting = s
+
+-- each command of a list is answered right in its turn, from the hall s on, which becomes t
+unfoldable pub Carried-out : Store → List Command → List Answer → Store → Type 0
+Carried-out s [] [] t = s ≡ t
+Carried-out s [] (a ∷ as₁) t = ⊥
+Carried-out s (c ∷ cs) [] t = ⊥
+Carried-out s (c ∷ cs) (a ∷ as₁) t = Answered s c a × Carried-out (hall-then s c a) cs as₁ t
 
 -- acts enough for a command: two for one that puts a good at most, else one for each good that there can be and two
 abbrev pub acts-of : Command → ℕ

@@ -1,13 +1,14 @@
 // Telling a hall: whole commands, and lists of them.
 ghost use mathlib.Core.Path.{_≡_};
-ghost use mathlib.Core.Bool.{false};
+ghost use mathlib.Core.Bool.{true, false};
+ghost use Rattle.std.specs.Of.Vec.{vec-items};
 ghost use Rattle.std.specs.Results.{isOk};
 ghost use Rattle.std.specs.Vec.{made};
 ghost use Rattle.hall.specs.House.{Store};
 ghost use Rattle.machine.specs.Acts.{nothing};
 ghost use Rattle.placing_model.specs.Reached.{Reached, Answered, hall-then, acts-of};
 ghost use Rattle.placing.specs.Acts.{command-of};
-ghost use Rattle.placing.specs.Halls.{words-of, answer-of};
+ghost use Rattle.placing.specs.Halls.{words-of, answer-of, outcome-from, commands-of, All-told, Goes-on};
 use crate::acts::Command;
 use crate::acts::Refusal;
 use crate::acts::Spot;
@@ -23,6 +24,13 @@ use std::alloc::Global;
 pub enum Failure {
     Refused(Refusal),
     NoMemory,
+}
+
+// What a command of a list was answered: all that it put, in this order, or why it is refused.
+#[derive(Drop)]
+pub enum Outcome {
+    Put(Vec<Spot>),
+    Refused(Refusal),
 }
 
 // Acts enough for a command.
@@ -62,4 +70,38 @@ impl Hall {
             Ending::Unfinished => unreachable(),
         }
     }
+}
+
+// What an answer is as an outcome; none for want of memory.
+fn outcome_of(told: Result<Vec<Spot>, Failure>) -> Option<Outcome>
+    ensures { λ r. ⌜ r ≡ outcome-from told ⌝ }
+{
+    match told {
+        Ok(moves) => Some(Outcome::Put(moves)),
+        Err(Failure::Refused(why)) => Some(Outcome::Refused(why)),
+        Err(Failure::NoMemory) => None,
+    }
+}
+
+// Tells the hall one command more of a list, and notes what it was answered.
+fn tell_next(hall: &mut Hall, heap: Global, command: Command, outcomes: &mut Vec<Outcome>) -> Result<(), AllocError>
+    ensures { λ r. ⌜ (isOk r ≡ true → Goes-on (words-of (now (hall .entry))) (vec-items (now (outcomes .entry))) (command-of command) (words-of (now (hall .exit))) (vec-items (now (outcomes .exit)))) ⌝ }
+{
+    let Some(outcome) = outcome_of(hall.tell(heap, command)) else {
+        return Err(AllocError);
+    };
+    outcomes.push(outcome)?;
+    Ok(())
+}
+
+// Carries out a list of commands, from the empty hall on, and gives the hall and what each was answered.
+pub fn carry_out(heap: Global, commands: &[Command]) -> Result<(Hall, Vec<Outcome>), AllocError>
+    ensures { λ r. ⌜ made r (λ p. All-told (commands-of (now (commands .entry))) (words-of (p .0)) (vec-items (p .1))) ⌝ }
+{
+    let mut hall = Hall::new(heap)?;
+    let mut outcomes = Vec::new(heap);
+    for command in commands {
+        tell_next(&mut hall, heap, *command, &mut outcomes)?;
+    }
+    Ok((hall, outcomes))
 }
