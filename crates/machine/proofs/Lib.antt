@@ -7,5 +7,4 @@ pub mod Closing
 pub mod Refines
 pub mod Busy
 pub mod Keeping
-pub mod Turning
 pub mod Acts

@@ -73,8 +73,11 @@ module _ (P : Parts) where
   evens-from m p x z = pick (leb (suc (suc (P .loads .load (m .loads) x))) (P .loads .load (m .loads) z)) (gives-first m p x z) (ends m)
 
   -- evens out towards the shelf at x: from a fullest
+  abbrev pub evened : State → ℕ → ℕ → Turn
+  evened m p x = pick (eqb (P .loads .fullest (m .loads)) 0) (ends m) (evens-from m p x (P .loads .fullest (m .loads)))
+
   unfoldable pub evens : State → ℕ → ℕ → Turn
-  evens m p x = pick (eqb (P .loads .fullest (m .loads)) 0) (ends m) (evens-from m p x (P .loads .fullest (m .loads)))
+  evens m p x = evened m p x
 
   -- the good at y goes from the shelf at x, which is no longer in the loads, to the one at z
   abbrev pub sends : State → ℕ → ℕ → ℕ → Turn
@@ -87,9 +90,12 @@ module _ (P : Parts) where
   drop-shelf m x = at-phase (with-shelves m (P .shelves .remove (m .shelves) (P .shelves .num (m .shelves) x))) 0 0
 
   -- the first good of the shelf at x is put on an emptiest one; there is none: the shelf's row goes
-  unfoldable pub empties : State → ℕ → Turn
-  empties m x =
+  abbrev pub emptied : State → ℕ → Turn
+  emptied m x =
       pick (eqb (P .contents .first (m .contents) x) 0) (turn (drop-shelf m x) done) (sends-out m x (P .contents .first (m .contents) x))
+
+  unfoldable pub empties : State → ℕ → Turn
+  empties m x = emptied m x
 
   -- a good comes: it gets the slot y, and goes to the shelf at x
   abbrev pub places : State → ℕ → ℕ → ℕ → Turn

@@ -1,4 +1,2 @@
-mod Running
-mod Steps
+pub mod Steps
 mod Taking
-mod Telling

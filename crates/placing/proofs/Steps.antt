@@ -15,9 +15,12 @@ use Rattle.placing_model.specs.Memory.{cut, joined}
 use Rattle.placing_model.specs.Own.{own}
 use Rattle.placing_model.proofs.Memory.{joined-cut, length-zeros}
 use Rattle.placing_model.proofs.Own.{fits-yes}
-use Rattle.placing.specs.Acts.{Takes, act-of}
+use Rattle.placing.specs.Acts.{Takes, act-of, event-of-request, number-in}
 use Rattle.placing.specs.Entry.{event-of, Act-told, Step-says, step-fits}
 use Rattle.placing.specs.declared.acts.Act.{Act}
+use Rattle.placing.specs.declared.acts.Command.the-variants.{GoodComes, GoodGoes, ShelfComes, ShelfGoes, WhereIs}
+use Rattle.placing.specs.declared.acts.Request.{Request}
+use Rattle.placing.specs.declared.acts.Request.the-variants.{Carry, GoOn}
 use Rattle.placing.specs.declared.acts.Told.{Told}
 use Rattle.placing.specs.declared.acts.Told.the-variants.{No}
 
@@ -58,3 +61,13 @@ step-taken m m₁ k n out out₁ act r ev fit small h h₁ e took told =
     let l : event-number ev < 18446744073709551616 = rw e (event-small k n small) in
     let s = own-takes m m₁ act ev h h₁ l took in
     rw (fits-is m k out ∙ fit, ← e, s) (refl, told)
+
+-- the number of a request
+pub request-small : (r : Request) → number-in r < 18446744073709551616 → event-number (event-of-request r) < 18446744073709551616
+unfolding number-of
+request-small (Carry (GoodComes n)) h = h
+request-small (Carry (GoodGoes n)) h = h
+request-small (Carry (ShelfComes n)) h = h
+request-small (Carry (ShelfGoes n)) h = h
+request-small (Carry (WhereIs n)) h = h
+request-small GoOn h = h

@@ -45,6 +45,14 @@ abbrev pub event-of-request : Request → Event
 event-of-request (Carry c) = said (command-of c)
 event-of-request GoOn = next
 
+abbrev pub number-in : Request → ℕ
+number-in (Carry (GoodComes n)) = n
+number-in (Carry (GoodGoes n)) = n
+number-in (Carry (ShelfComes n)) = n
+number-in (Carry (ShelfGoes n)) = n
+number-in (Carry (WhereIs n)) = n
+number-in GoOn = 0
+
 abbrev pub number-of-phase : Phase → ℕ
 number-of-phase Idle = 0
 number-of-phase Ending = 1

@@ -8,6 +8,11 @@ use lib.ListN.{length, drop}
 use Rattle.hall.specs.House.{pick, comes, goes, shelf-comes, shelf-goes, where-is}
 use Rattle.hall.specs.Promise.{Event, said, next, Act, puts, done, refused}
 use Rattle.placing_model.specs.Own.{own}
+use Rattle.std.specs.declared.option.Option.{Option}
+use Rattle.std.specs.declared.option.Option.the-variants.{Some, None}
+use Rattle.placing_model.specs.Memory.{Whole-memory}
+use Rattle.placing.specs.Acts.{act-of}
+use Rattle.placing.specs.declared.acts.Act as code
 use Rattle.placing.specs.declared.acts.Told.{Told}
 use Rattle.placing.specs.declared.acts.Told.the-variants.{Put, Done, No}
 
@@ -31,3 +36,8 @@ Step-says memory kind number out false r memory₁ out₁ = (r ≡ No 0) × (mem
 
 unfoldable pub step-fits : (memory : List ℕ) (kind : ℕ) (out : List ℕ) → Bool
 step-fits memory kind out = eqb (length memory) (length (own .start)) && (leb kind 5 && leb 2 (length out))
+
+-- one act: in a memory of the machine's own length it is that of its step; in any other none, and nothing is changed
+abbrev pub Acts-in : List ℕ → Event → Option code.Act → List ℕ → Type 0
+Acts-in m ev (Some a) m₁ = Whole-memory m × (own .step m ev ≡ record { memory = m₁; act = act-of a })
+Acts-in m ev None m₁ = (Whole-memory m → ⊥) × (m₁ ≡ m)

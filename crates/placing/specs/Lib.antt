@@ -1,4 +1,2 @@
 pub mod Acts
 pub mod Entry
-pub mod Runs
-pub mod Halls

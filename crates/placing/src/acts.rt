@@ -1,7 +1,6 @@
 // What the machine is told, and what it does.
 ghost use mathlib.Core.Path.{_≡_};
-ghost use Rattle.hall.specs.Promise.{number-of};
-ghost use Rattle.placing.specs.Acts.{refusal-number, command-of};
+ghost use Rattle.placing.specs.Acts.{refusal-number, number-in};
 
 // A good and the shelf that it is put on.
 #[derive(Clone, Copy, PartialEq, Eq, Debug)]
@@ -61,26 +60,27 @@ pub enum Command {
     WhereIs(u64),
 }
 
-impl Command {
-    // The number of the good or the shelf that it is about.
-    pub fn number(self) -> u64
-        ensures { λ r. ⌜ r ≡ number-of (command-of self) ⌝ }
-    {
-        match self {
-            Command::GoodComes(good) => good,
-            Command::GoodGoes(good) => good,
-            Command::ShelfComes(shelf) => shelf,
-            Command::ShelfGoes(shelf) => shelf,
-            Command::WhereIs(good) => good,
-        }
-    }
-}
-
 // What a step is asked for: a command, or to go on with the one that is under way.
 #[derive(Clone, Copy)]
 pub enum Request {
     Carry(Command),
     GoOn,
+}
+
+impl Request {
+    // The number of the good or the shelf that it is about; 0 for none.
+    pub fn number(self) -> u64
+        ensures { λ r. ⌜ r ≡ number-in self ⌝ }
+    {
+        match self {
+            Request::Carry(Command::GoodComes(good)) => good,
+            Request::Carry(Command::GoodGoes(good)) => good,
+            Request::Carry(Command::ShelfComes(shelf)) => shelf,
+            Request::Carry(Command::ShelfGoes(shelf)) => shelf,
+            Request::Carry(Command::WhereIs(good)) => good,
+            Request::GoOn => 0,
+        }
+    }
 }
 
 // How far the command that is under way has come.

@@ -1,17 +1,15 @@
 // The machine over one lent memory: one step, its acts and refusals.
-mod acts;
+pub mod acts;
 mod entry;
-mod owner;
 mod regions;
-mod runs;
 mod turns;
 
+pub use acts::Act;
 pub use acts::Command;
 pub use acts::Refusal;
+pub use acts::Request;
 pub use acts::Spot;
 pub use acts::Told;
+pub use entry::act;
 pub use entry::step;
-pub use owner::Failure;
-pub use owner::Hall;
-pub use owner::Outcome;
-pub use owner::carry_out;
+pub use regions::WORDS;

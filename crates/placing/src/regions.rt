@@ -1,5 +1,6 @@
 // The machine's memory by its regions: one thin function for each operation of a part.
 ghost use mathlib.Core.Path.{_≡_};
+ghost use Rattle.std.specs.declared.option.Option.the-variants.{None};
 ghost use Rattle.words.specs.Slots.{some-slot};
 ghost use Rattle.machine.specs.Machine.{at-phase, with-goods, with-shelves, with-loads, with-contents};
 ghost use Rattle.placing_model.specs.Parts.{parts};
@@ -59,6 +60,7 @@ pub fn insert_good(memory: &mut [u64], good: u64) -> Option<u64>
     requires { ⌜ Whole-memory (now memory) ⌝ }
     ensures says { λ r. ⌜ r ≡ some-slot (parts .goods .takes (cut (now (memory .entry)) .goods) good) ⌝ }
     ensures after { λ _. ⌜ cut (now (memory .exit)) ≡ with-goods parts (cut (now (memory .entry))) (parts .goods .insert (cut (now (memory .entry)) .goods) good) ⌝ }
+    ensures refused { λ r. ⌜ (r ≡ None → cut (now (memory .exit)) ≡ cut (now (memory .entry))) ⌝ }
 {
     index::insert_in::<GOODS_BITS>(&mut memory[GOODS..SHELVES], good)
 }
@@ -100,6 +102,7 @@ pub fn insert_shelf(memory: &mut [u64], shelf: u64) -> Option<u64>
     requires { ⌜ Whole-memory (now memory) ⌝ }
     ensures says { λ r. ⌜ r ≡ some-slot (parts .shelves .takes (cut (now (memory .entry)) .shelves) shelf) ⌝ }
     ensures after { λ _. ⌜ cut (now (memory .exit)) ≡ with-shelves parts (cut (now (memory .entry))) (parts .shelves .insert (cut (now (memory .entry)) .shelves) shelf) ⌝ }
+    ensures refused { λ r. ⌜ (r ≡ None → cut (now (memory .exit)) ≡ cut (now (memory .entry))) ⌝ }
 {
     index::insert_in::<SHELVES_BITS>(&mut memory[SHELVES..LOADS], shelf)
 }

@@ -1,7 +1,7 @@
 // The machine's turns: what it does at each request, one act at a time.
 ghost use mathlib.Core.Path.{_≡_};
 ghost use Rattle.hall.specs.Promise.{done};
-ghost use Rattle.machine.specs.Machine.{turn, at-phase, put, take, ends, evens, drop-shelf, empties, comes-in, goes-out, opens, closes, looks-up, command-turn, goes-on, turn-of};
+ghost use Rattle.machine.specs.Machine.{turn, at-phase, put, take, ends, evened, evens, drop-shelf, emptied, empties, comes-in, goes-out, opens, closes, looks-up, command-turn, goes-on, turn-of};
 ghost use Rattle.placing_model.specs.Parts.{parts};
 ghost use Rattle.placing_model.specs.Memory.{Whole-memory, cut};
 ghost use Rattle.placing.specs.Acts.{Takes, number-of-phase, phase-named, command-of, event-of-request};
@@ -66,9 +66,9 @@ fn spot_of(memory: &[u64], good: u64, shelf: u64) -> Spot
 }
 
 // If a fullest shelf has two more than this one, a good of it is put on this one; else the command is carried out.
-fn even_out(memory: &mut [u64], phase: Phase, shelf: u64) -> Act
+fn give_one(memory: &mut [u64], phase: Phase, shelf: u64) -> Act
     requires { ⌜ Whole-memory (now memory) ⌝ }
-    ensures { λ r. ⌜ Takes (now (memory .exit)) r (evens parts (cut (now (memory .entry))) (number-of-phase phase) shelf) ⌝ }
+    ensures { λ r. ⌜ Takes (now (memory .exit)) r (evened parts (cut (now (memory .entry))) (number-of-phase phase) shelf) ⌝ }
 {
     let Some(fullest) = fullest_shelf(memory) else {
         return finish(memory);
@@ -86,6 +86,14 @@ fn even_out(memory: &mut [u64], phase: Phase, shelf: u64) -> Act
     Act::Puts(spot)
 }
 
+// Evens out towards a shelf.
+fn even_out(memory: &mut [u64], phase: Phase, shelf: u64) -> Act
+    requires { ⌜ Whole-memory (now memory) ⌝ }
+    ensures { λ r. ⌜ Takes (now (memory .exit)) r (evens parts (cut (now (memory .entry))) (number-of-phase phase) shelf) ⌝ }
+{
+    give_one(memory, phase, shelf)
+}
+
 // The shelf's row goes, and the command is carried out.
 fn close(memory: &mut [u64], shelf: u64) -> Act
     requires { ⌜ Whole-memory (now memory) ⌝ }
@@ -97,9 +105,9 @@ fn close(memory: &mut [u64], shelf: u64) -> Act
 }
 
 // A good of a shelf that goes is put on an emptiest one; when there is none left the shelf is gone.
-fn empty_out(memory: &mut [u64], shelf: u64) -> Act
+fn send_one(memory: &mut [u64], shelf: u64) -> Act
     requires { ⌜ Whole-memory (now memory) ⌝ }
-    ensures { λ r. ⌜ Takes (now (memory .exit)) r (empties parts (cut (now (memory .entry))) shelf) ⌝ }
+    ensures { λ r. ⌜ Takes (now (memory .exit)) r (emptied parts (cut (now (memory .entry))) shelf) ⌝ }
 {
     let Some(good) = first_good(memory, shelf) else {
         return close(memory, shelf);
@@ -112,6 +120,14 @@ fn empty_out(memory: &mut [u64], shelf: u64) -> Act
     put(memory, good, emptiest);
     set_phase(memory, Phase::Emptying, shelf);
     Act::Puts(spot)
+}
+
+// Empties a shelf that goes.
+fn empty_out(memory: &mut [u64], shelf: u64) -> Act
+    requires { ⌜ Whole-memory (now memory) ⌝ }
+    ensures { λ r. ⌜ Takes (now (memory .exit)) r (empties parts (cut (now (memory .entry))) shelf) ⌝ }
+{
+    send_one(memory, shelf)
 }
 
 // A good comes: it is put on an emptiest shelf.
@@ -190,13 +206,13 @@ fn where_is(memory: &mut [u64], good: u64) -> Act
     let Some(slot) = good_slot(memory, good) else {
         return Act::Refused(Refusal::NotThere);
     };
-    let Some(shelf) = shelf_of(memory, slot) else {
+    let Some(stands) = shelf_of(memory, slot) else {
         return Act::Refused(Refusal::NotThere);
     };
     set_phase(memory, Phase::Ending, 0);
     Act::Puts(Spot {
         good,
-        shelf: shelf_number(memory, shelf),
+        shelf: shelf_number(memory, stands),
     })
 }
 

@@ -1,3 +1,4 @@
 pub mod Laws
 pub mod Cuts
 pub mod Cases
+pub mod Slots
