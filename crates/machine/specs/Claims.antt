@@ -1,4 +1,4 @@
--- What holds of the machine's turn in every state, whatever its parts are. A statement whose proof is owed where the parts are given.
+-- What holds of the machine's turn in every state, whatever its parts are.
 use mathlib.Core.Path.{_≡_}
 use mathlib.Core.Bool.{true}
 use Prim.Native.Nat.{_<_}

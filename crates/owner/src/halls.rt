@@ -4,13 +4,13 @@ ghost use Rattle.std.specs.Of.Vec.{vec-items, vec-len};
 ghost use Rattle.hall.specs.House.{Store};
 ghost use Rattle.placing_model.specs.Reached.{Reached};
 
-// Its memory is that of a hall that is reached by what was told from the empty hall on.
 mod telling;
 
 pub use telling::Failure;
 pub use telling::Outcome;
 pub use telling::carry_out;
 
+// Its memory is that of a hall that is reached by what was told from the empty hall on.
 #[derive(Drop)]
 pub struct Hall {
     memory: Vec<u64>,

@@ -1,2 +1,2 @@
-pub mod Steps
+mod Steps
 mod Taking

@@ -15,12 +15,11 @@ use Rattle.placing_model.specs.Memory.{cut, joined}
 use Rattle.placing_model.specs.Own.{own}
 use Rattle.placing_model.proofs.Memory.{joined-cut, length-zeros}
 use Rattle.placing_model.proofs.Own.{fits-yes}
-use Rattle.placing.specs.Acts.{Takes, act-of, event-of-request, number-in}
+use Rattle.placing.specs.Acts.{Takes, act-of, command-of, number-in}
 use Rattle.placing.specs.Entry.{event-of, Act-told, Step-says, step-fits}
 use Rattle.placing.specs.declared.acts.Act.{Act}
+use Rattle.placing.specs.declared.acts.Command.{Command}
 use Rattle.placing.specs.declared.acts.Command.the-variants.{GoodComes, GoodGoes, ShelfComes, ShelfGoes, WhereIs}
-use Rattle.placing.specs.declared.acts.Request.{Request}
-use Rattle.placing.specs.declared.acts.Request.the-variants.{Carry, GoOn}
 use Rattle.placing.specs.declared.acts.Told.{Told}
 use Rattle.placing.specs.declared.acts.Told.the-variants.{No}
 
@@ -62,12 +61,11 @@ step-taken m m₁ k n out out₁ act r ev fit small h h₁ e took told =
     let s = own-takes m m₁ act ev h h₁ l took in
     rw (fits-is m k out ∙ fit, ← e, s) (refl, told)
 
--- the number of a request
-pub request-small : (r : Request) → number-in r < 18446744073709551616 → event-number (event-of-request r) < 18446744073709551616
+-- the number of a command
+pub number-is : (c : Command) → number-in c ≡ number-of (command-of c)
 unfolding number-of
-request-small (Carry (GoodComes n)) h = h
-request-small (Carry (GoodGoes n)) h = h
-request-small (Carry (ShelfComes n)) h = h
-request-small (Carry (ShelfGoes n)) h = h
-request-small (Carry (WhereIs n)) h = h
-request-small GoOn h = h
+number-is (GoodComes n) = refl
+number-is (GoodGoes n) = refl
+number-is (ShelfComes n) = refl
+number-is (ShelfGoes n) = refl
+number-is (WhereIs n) = refl

@@ -45,13 +45,12 @@ abbrev pub event-of-request : Request → Event
 event-of-request (Carry c) = said (command-of c)
 event-of-request GoOn = next
 
-abbrev pub number-in : Request → ℕ
-number-in (Carry (GoodComes n)) = n
-number-in (Carry (GoodGoes n)) = n
-number-in (Carry (ShelfComes n)) = n
-number-in (Carry (ShelfGoes n)) = n
-number-in (Carry (WhereIs n)) = n
-number-in GoOn = 0
+abbrev pub number-in : Command → ℕ
+number-in (GoodComes n) = n
+number-in (GoodGoes n) = n
+number-in (ShelfComes n) = n
+number-in (ShelfGoes n) = n
+number-in (WhereIs n) = n
 
 abbrev pub number-of-phase : Phase → ℕ
 number-of-phase Idle = 0

@@ -28,7 +28,7 @@ Act-told (puts g k) r out out₁ = (r ≡ Put 2) × (out₁ ≡ g ∷ k ∷ drop
 Act-told done r out out₁ = (r ≡ Done) × (out₁ ≡ out)
 Act-told (refused k) r out out₁ = (r ≡ No k) × (out₁ ≡ out)
 
--- one step: for memories of the machine's own length and a lent row of two numbers; for others number 0 is told and nothing is changed
+-- one step: for memories of the machine's own length and a lent row of two numbers at least; for others number 0 is told and nothing is changed
 unfoldable pub Step-says : (memory : List ℕ) (kind number : ℕ) (out : List ℕ) → Bool → Told → (memory₁ out₁ : List ℕ) → Type 0
 Step-says memory kind number out true r memory₁ out₁ =
     (memory₁ ≡ own .step memory (event-of kind number) .memory) × Act-told (own .step memory (event-of kind number) .act) r out out₁

@@ -1,6 +1,8 @@
 // What the machine is told, and what it does.
 ghost use mathlib.Core.Path.{_≡_};
-ghost use Rattle.placing.specs.Acts.{refusal-number, number-in};
+ghost use Rattle.hall.specs.Promise.{number-of};
+ghost use Rattle.machine.specs.Lifting.{event-number};
+ghost use Rattle.placing.specs.Acts.{refusal-number, number-in, command-of, event-of-request};
 
 // A good and the shelf that it is put on.
 #[derive(Clone, Copy, PartialEq, Eq, Debug)]
@@ -60,6 +62,28 @@ pub enum Command {
     WhereIs(u64),
 }
 
+// The number that a command holds.
+fn number_in(command: Command) -> u64
+    ensures { λ r. ⌜ r ≡ number-in command ⌝ }
+{
+    match command {
+        Command::GoodComes(good) => good,
+        Command::GoodGoes(good) => good,
+        Command::ShelfComes(shelf) => shelf,
+        Command::ShelfGoes(shelf) => shelf,
+        Command::WhereIs(good) => good,
+    }
+}
+
+impl Command {
+    // The number of the good or the shelf that it is about.
+    pub fn number(self) -> u64
+        ensures { λ r. ⌜ r ≡ number-of (command-of self) ⌝ }
+    {
+        number_in(self)
+    }
+}
+
 // What a step is asked for: a command, or to go on with the one that is under way.
 #[derive(Clone, Copy)]
 pub enum Request {
@@ -70,14 +94,10 @@ pub enum Request {
 impl Request {
     // The number of the good or the shelf that it is about; 0 for none.
     pub fn number(self) -> u64
-        ensures { λ r. ⌜ r ≡ number-in self ⌝ }
+        ensures { λ r. ⌜ r ≡ event-number (event-of-request self) ⌝ }
     {
         match self {
-            Request::Carry(Command::GoodComes(good)) => good,
-            Request::Carry(Command::GoodGoes(good)) => good,
-            Request::Carry(Command::ShelfComes(shelf)) => shelf,
-            Request::Carry(Command::ShelfGoes(shelf)) => shelf,
-            Request::Carry(Command::WhereIs(good)) => good,
+            Request::Carry(command) => command.number(),
             Request::GoOn => 0,
         }
     }

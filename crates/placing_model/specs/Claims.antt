@@ -1,4 +1,4 @@
--- What is claimed of the machine in every memory, reached or not. A statement whose proof is owed.
+-- What is claimed of the machine in every memory, reached or not.
 use mathlib.Core.Path.{_≡_}
 use mathlib.Core.Bool.{true}
 use mathlib.Core.List.{List}

@@ -3,8 +3,6 @@ use mathlib.Core.Path.{_≡_, sym, ap, _∙_}
 use Prim.Native.Nat.{suc, _-_, _+_}
 use native.Mathlib.Omega.{arith}
 use lib.ListN.{length}
-use Rattle.placing.specs.declared.acts.Request.the-variants.{Carry}
-use Rattle.placing.proofs.Steps.{request-small}
 use Rattle.owner.proofs.Running.{runs-puts, runs-done, runs-refused, runs-none, runs-on, start-runs}
 use Rattle.owner.proofs.runs.run.Needs as need
 
@@ -31,7 +29,7 @@ returns-in-Done c =
     let e = c .number-number .ensures in
     let i = c .loop-turn .inv in
     record {
-      small = request-small (Carry (c .args .command)) (omega arith);
+      small = omega arith;
       ran = sym (i .3) ∙ runs-done (c .args .acts - c .loop-turn .turn) (c .args .acts - suc (c .loop-turn .turn)) _ _ _ _ (omega arith) _ (c .in-Done .is) (c .in-Some .ensures tt .1);
     }
 
@@ -40,7 +38,7 @@ returns-in-Refused c =
     let e = c .number-number .ensures in
     let i = c .loop-turn .inv in
     record {
-      small = request-small (Carry (c .args .command)) (omega arith);
+      small = omega arith;
       ran = sym (i .3) ∙ runs-refused (c .args .acts - c .loop-turn .turn) (c .args .acts - suc (c .loop-turn .turn)) _ _ _ _ (omega arith) _ _ (c .in-Refused .is) (c .in-Some .ensures tt .1);
     }
 
@@ -51,4 +49,4 @@ pub returns : need.returns
 returns c =
     let e = c .number-number .ensures in
     let i = c .loop-turn .inv in
-    record { small = request-small (Carry (c .args .command)) (omega arith); ran = sym (i .3) ∙ runs-none _ _ _ _ (omega arith) }
+    record { small = omega arith; ran = sym (i .3) ∙ runs-none _ _ _ _ (omega arith) }

@@ -1,0 +1,48 @@
+// What a call of the program asks for.
+use std::env::Args;
+use std::fmt;
+
+#[derive(Drop)]
+pub enum Call {
+    Help,
+    Carry(String),
+}
+
+// What is wrong with a call.
+#[derive(Drop)]
+pub enum Misuse {
+    NoFile,
+    TooMany(String),
+    UnknownOption(String),
+    // An argument is no text.
+    Unreadable,
+}
+
+pub impl fmt::Display for Misuse as MisuseDisplay {
+    fn fmt<W: fmt::Write>(&self, f: &mut fmt::Formatter<W>) -> fmt::Result {
+        match self {
+            Misuse::NoFile => write!(f, "which file of steps?"),
+            Misuse::TooMany(word) => write!(f, "one file is enough, and there is `{word}`"),
+            Misuse::UnknownOption(word) => write!(f, "unknown option `{word}`"),
+            Misuse::Unreadable => write!(f, "an argument is not UTF-8"),
+        }
+    }
+}
+
+// The arguments begin with the program's name.
+pub fn call_of(args: Args) -> Result<Call, Misuse> {
+    let mut call = Err(Misuse::NoFile);
+    for word in args.skip(1) {
+        if word.as_str() == "--help" {
+            return Ok(Call::Help);
+        }
+        if word.as_str().starts_with("-") {
+            return Err(Misuse::UnknownOption(word));
+        }
+        if call.is_ok() {
+            return Err(Misuse::TooMany(word));
+        }
+        call = Ok(Call::Carry(word));
+    }
+    call
+}

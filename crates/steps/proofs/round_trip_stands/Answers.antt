@@ -1,0 +1,5 @@
+use Rattle.steps.proofs.Back.{round-trip}
+use Rattle.steps.proofs.round_trip_stands.Needs as need
+
+pub returns : need.returns
+returns c = round-trip
