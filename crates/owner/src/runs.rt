@@ -24,7 +24,12 @@ pub enum Ending {
 }
 
 // Carries out a command in so many acts at most, and adds what it puts to the list.
-pub fn run(memory: &mut [u64], command: Command, acts: usize, moves: &mut Vec<Spot>) -> Ending
+pub(crate) fn run(
+    memory: &mut [u64],
+    command: Command,
+    acts: usize,
+    moves: &mut Vec<Spot>,
+) -> Ending
     requires whole { ⌜ Whole-memory (now memory) ⌝ }
     requires fresh { ⌜ vec-items (now moves) ≡ [] ⌝ }
     requires room { ⌜ acts ≤ vec-cap (now moves) ⌝ }

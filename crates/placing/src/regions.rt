@@ -32,7 +32,7 @@ const GOODS_BITS: u64 = 15;
 const SHELVES_BITS: u64 = 10;
 
 // The slot of a good.
-pub fn good_slot(memory: &[u64], good: u64) -> Option<u64>
+pub(crate) fn good_slot(memory: &[u64], good: u64) -> Option<u64>
     requires { ⌜ Whole-memory (now memory) ⌝ }
     ensures { λ r. ⌜ r ≡ some-slot (parts .goods .find (cut (now (memory .entry)) .goods) good) ⌝ }
 {
@@ -40,7 +40,7 @@ pub fn good_slot(memory: &[u64], good: u64) -> Option<u64>
 }
 
 // The good at a slot.
-pub fn good_number(memory: &[u64], slot: u64) -> u64
+pub(crate) fn good_number(memory: &[u64], slot: u64) -> u64
     requires { ⌜ Whole-memory (now memory) ⌝ }
     ensures { λ r. ⌜ r ≡ parts .goods .num (cut (now (memory .entry)) .goods) slot ⌝ }
 {
@@ -48,7 +48,7 @@ pub fn good_number(memory: &[u64], slot: u64) -> u64
 }
 
 // How many goods there are.
-pub fn goods_count(memory: &[u64]) -> u64
+pub(crate) fn goods_count(memory: &[u64]) -> u64
     requires { ⌜ Whole-memory (now memory) ⌝ }
     ensures { λ r. ⌜ r ≡ parts .goods .count (cut (now (memory .entry)) .goods) ⌝ }
 {
@@ -56,7 +56,7 @@ pub fn goods_count(memory: &[u64]) -> u64
 }
 
 // A new good gets a slot, if there is room.
-pub fn insert_good(memory: &mut [u64], good: u64) -> Option<u64>
+pub(crate) fn insert_good(memory: &mut [u64], good: u64) -> Option<u64>
     requires { ⌜ Whole-memory (now memory) ⌝ }
     ensures says { λ r. ⌜ r ≡ some-slot (parts .goods .takes (cut (now (memory .entry)) .goods) good) ⌝ }
     ensures after { λ _. ⌜ cut (now (memory .exit)) ≡ with-goods parts (cut (now (memory .entry))) (parts .goods .insert (cut (now (memory .entry)) .goods) good) ⌝ }
@@ -66,7 +66,7 @@ pub fn insert_good(memory: &mut [u64], good: u64) -> Option<u64>
 }
 
 // A good and its slot are gone.
-pub fn remove_good(memory: &mut [u64], good: u64)
+pub(crate) fn remove_good(memory: &mut [u64], good: u64)
     requires { ⌜ Whole-memory (now memory) ⌝ }
     ensures { λ _. ⌜ cut (now (memory .exit)) ≡ with-goods parts (cut (now (memory .entry))) (parts .goods .remove (cut (now (memory .entry)) .goods) good) ⌝ }
 {
@@ -74,7 +74,7 @@ pub fn remove_good(memory: &mut [u64], good: u64)
 }
 
 // The slot of a shelf.
-pub fn shelf_slot(memory: &[u64], shelf: u64) -> Option<u64>
+pub(crate) fn shelf_slot(memory: &[u64], shelf: u64) -> Option<u64>
     requires { ⌜ Whole-memory (now memory) ⌝ }
     ensures { λ r. ⌜ r ≡ some-slot (parts .shelves .find (cut (now (memory .entry)) .shelves) shelf) ⌝ }
 {
@@ -82,7 +82,7 @@ pub fn shelf_slot(memory: &[u64], shelf: u64) -> Option<u64>
 }
 
 // The shelf at a slot.
-pub fn shelf_number(memory: &[u64], slot: u64) -> u64
+pub(crate) fn shelf_number(memory: &[u64], slot: u64) -> u64
     requires { ⌜ Whole-memory (now memory) ⌝ }
     ensures { λ r. ⌜ r ≡ parts .shelves .num (cut (now (memory .entry)) .shelves) slot ⌝ }
 {
@@ -90,7 +90,7 @@ pub fn shelf_number(memory: &[u64], slot: u64) -> u64
 }
 
 // How many shelves there are.
-pub fn shelves_count(memory: &[u64]) -> u64
+pub(crate) fn shelves_count(memory: &[u64]) -> u64
     requires { ⌜ Whole-memory (now memory) ⌝ }
     ensures { λ r. ⌜ r ≡ parts .shelves .count (cut (now (memory .entry)) .shelves) ⌝ }
 {
@@ -98,7 +98,7 @@ pub fn shelves_count(memory: &[u64]) -> u64
 }
 
 // A new shelf gets a slot, if there is room.
-pub fn insert_shelf(memory: &mut [u64], shelf: u64) -> Option<u64>
+pub(crate) fn insert_shelf(memory: &mut [u64], shelf: u64) -> Option<u64>
     requires { ⌜ Whole-memory (now memory) ⌝ }
     ensures says { λ r. ⌜ r ≡ some-slot (parts .shelves .takes (cut (now (memory .entry)) .shelves) shelf) ⌝ }
     ensures after { λ _. ⌜ cut (now (memory .exit)) ≡ with-shelves parts (cut (now (memory .entry))) (parts .shelves .insert (cut (now (memory .entry)) .shelves) shelf) ⌝ }
@@ -108,7 +108,7 @@ pub fn insert_shelf(memory: &mut [u64], shelf: u64) -> Option<u64>
 }
 
 // A shelf and its slot are gone.
-pub fn remove_shelf(memory: &mut [u64], shelf: u64)
+pub(crate) fn remove_shelf(memory: &mut [u64], shelf: u64)
     requires { ⌜ Whole-memory (now memory) ⌝ }
     ensures { λ _. ⌜ cut (now (memory .exit)) ≡ with-shelves parts (cut (now (memory .entry))) (parts .shelves .remove (cut (now (memory .entry)) .shelves) shelf) ⌝ }
 {
@@ -116,7 +116,7 @@ pub fn remove_shelf(memory: &mut [u64], shelf: u64)
 }
 
 // The slot of an emptiest shelf.
-pub fn emptiest_shelf(memory: &[u64]) -> Option<u64>
+pub(crate) fn emptiest_shelf(memory: &[u64]) -> Option<u64>
     requires { ⌜ Whole-memory (now memory) ⌝ }
     ensures { λ r. ⌜ r ≡ some-slot (parts .loads .emptiest (cut (now (memory .entry)) .loads)) ⌝ }
 {
@@ -124,7 +124,7 @@ pub fn emptiest_shelf(memory: &[u64]) -> Option<u64>
 }
 
 // The slot of a fullest shelf.
-pub fn fullest_shelf(memory: &[u64]) -> Option<u64>
+pub(crate) fn fullest_shelf(memory: &[u64]) -> Option<u64>
     requires { ⌜ Whole-memory (now memory) ⌝ }
     ensures { λ r. ⌜ r ≡ some-slot (parts .loads .fullest (cut (now (memory .entry)) .loads)) ⌝ }
 {
@@ -132,7 +132,7 @@ pub fn fullest_shelf(memory: &[u64]) -> Option<u64>
 }
 
 // How many goods are on the shelf at a slot.
-pub fn load_of(memory: &[u64], shelf: u64) -> u64
+pub(crate) fn load_of(memory: &[u64], shelf: u64) -> u64
     requires { ⌜ Whole-memory (now memory) ⌝ }
     ensures { λ r. ⌜ r ≡ parts .loads .load (cut (now (memory .entry)) .loads) shelf ⌝ }
 {
@@ -140,7 +140,7 @@ pub fn load_of(memory: &[u64], shelf: u64) -> u64
 }
 
 // The shelf at a slot takes part in the order of loads, with nothing on it.
-pub fn enter_shelf(memory: &mut [u64], shelf: u64)
+pub(crate) fn enter_shelf(memory: &mut [u64], shelf: u64)
     requires { ⌜ Whole-memory (now memory) ⌝ }
     ensures { λ _. ⌜ cut (now (memory .exit)) ≡ with-loads parts (cut (now (memory .entry))) (parts .loads .enter (cut (now (memory .entry)) .loads) shelf) ⌝ }
 {
@@ -148,7 +148,7 @@ pub fn enter_shelf(memory: &mut [u64], shelf: u64)
 }
 
 // The shelf at a slot is out of the order of loads.
-pub fn leave_shelf(memory: &mut [u64], shelf: u64)
+pub(crate) fn leave_shelf(memory: &mut [u64], shelf: u64)
     requires { ⌜ Whole-memory (now memory) ⌝ }
     ensures { λ _. ⌜ cut (now (memory .exit)) ≡ with-loads parts (cut (now (memory .entry))) (parts .loads .leave (cut (now (memory .entry)) .loads) shelf) ⌝ }
 {
@@ -156,7 +156,7 @@ pub fn leave_shelf(memory: &mut [u64], shelf: u64)
 }
 
 // One more on the shelf at a slot.
-pub fn add_load(memory: &mut [u64], shelf: u64)
+pub(crate) fn add_load(memory: &mut [u64], shelf: u64)
     requires { ⌜ Whole-memory (now memory) ⌝ }
     ensures { λ _. ⌜ cut (now (memory .exit)) ≡ with-loads parts (cut (now (memory .entry))) (parts .loads .add-one (cut (now (memory .entry)) .loads) shelf) ⌝ }
 {
@@ -164,7 +164,7 @@ pub fn add_load(memory: &mut [u64], shelf: u64)
 }
 
 // One less on the shelf at a slot.
-pub fn take_load(memory: &mut [u64], shelf: u64)
+pub(crate) fn take_load(memory: &mut [u64], shelf: u64)
     requires { ⌜ Whole-memory (now memory) ⌝ }
     ensures { λ _. ⌜ cut (now (memory .exit)) ≡ with-loads parts (cut (now (memory .entry))) (parts .loads .take-one (cut (now (memory .entry)) .loads) shelf) ⌝ }
 {
@@ -172,7 +172,7 @@ pub fn take_load(memory: &mut [u64], shelf: u64)
 }
 
 // The slot of the shelf that the good at a slot is on.
-pub fn shelf_of(memory: &[u64], good: u64) -> Option<u64>
+pub(crate) fn shelf_of(memory: &[u64], good: u64) -> Option<u64>
     requires { ⌜ Whole-memory (now memory) ⌝ }
     ensures { λ r. ⌜ r ≡ some-slot (parts .contents .shelf (cut (now (memory .entry)) .contents) good) ⌝ }
 {
@@ -180,7 +180,7 @@ pub fn shelf_of(memory: &[u64], good: u64) -> Option<u64>
 }
 
 // The slot of a good on the shelf at a slot.
-pub fn first_good(memory: &[u64], shelf: u64) -> Option<u64>
+pub(crate) fn first_good(memory: &[u64], shelf: u64) -> Option<u64>
     requires { ⌜ Whole-memory (now memory) ⌝ }
     ensures { λ r. ⌜ r ≡ some-slot (parts .contents .first (cut (now (memory .entry)) .contents) shelf) ⌝ }
 {
@@ -188,7 +188,7 @@ pub fn first_good(memory: &[u64], shelf: u64) -> Option<u64>
 }
 
 // The good at a slot is on the shelf at a slot.
-pub fn add_good(memory: &mut [u64], shelf: u64, good: u64)
+pub(crate) fn add_good(memory: &mut [u64], shelf: u64, good: u64)
     requires { ⌜ Whole-memory (now memory) ⌝ }
     ensures { λ _. ⌜ cut (now (memory .exit)) ≡ with-contents parts (cut (now (memory .entry))) (parts .contents .add (cut (now (memory .entry)) .contents) shelf good) ⌝ }
 {
@@ -196,7 +196,7 @@ pub fn add_good(memory: &mut [u64], shelf: u64, good: u64)
 }
 
 // The good at a slot is on no shelf.
-pub fn take_good(memory: &mut [u64], good: u64)
+pub(crate) fn take_good(memory: &mut [u64], good: u64)
     requires { ⌜ Whole-memory (now memory) ⌝ }
     ensures { λ _. ⌜ cut (now (memory .exit)) ≡ with-contents parts (cut (now (memory .entry))) (parts .contents .remove (cut (now (memory .entry)) .contents) good) ⌝ }
 {
@@ -204,7 +204,7 @@ pub fn take_good(memory: &mut [u64], good: u64)
 }
 
 // The phase of the step that is under way, as its number.
-pub fn phase_number(memory: &[u64]) -> u64
+pub(crate) fn phase_number(memory: &[u64]) -> u64
     requires { ⌜ Whole-memory (now memory) ⌝ }
     ensures { λ r. ⌜ r ≡ cut (now (memory .entry)) .phase ⌝ }
 {
@@ -212,7 +212,7 @@ pub fn phase_number(memory: &[u64]) -> u64
 }
 
 // The slot of the shelf that the step is about.
-pub fn subject(memory: &[u64]) -> u64
+pub(crate) fn subject(memory: &[u64]) -> u64
     requires { ⌜ Whole-memory (now memory) ⌝ }
     ensures { λ r. ⌜ r ≡ cut (now (memory .entry)) .subject ⌝ }
 {
@@ -220,7 +220,7 @@ pub fn subject(memory: &[u64]) -> u64
 }
 
 // Sets both registers.
-pub fn set_registers(memory: &mut [u64], phase: u64, subject: u64)
+pub(crate) fn set_registers(memory: &mut [u64], phase: u64, subject: u64)
     requires { ⌜ Whole-memory (now memory) ⌝ }
     ensures { λ _. ⌜ cut (now (memory .exit)) ≡ at-phase parts (cut (now (memory .entry))) phase subject ⌝ }
 {

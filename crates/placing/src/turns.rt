@@ -258,7 +258,7 @@ fn begin(memory: &mut [u64], command: Command) -> Act
 }
 
 // One turn of the machine: a command is taken only when none is under way.
-pub fn react(memory: &mut [u64], request: Request) -> Act
+pub(crate) fn react(memory: &mut [u64], request: Request) -> Act
     requires { ⌜ Whole-memory (now memory) ⌝ }
     ensures { λ r. ⌜ Takes (now (memory .exit)) r (turn-of parts (cut (now (memory .entry))) (event-of-request request)) ⌝ }
 {
