@@ -1,6 +1,7 @@
 // What a call of the program asks for.
 use std::env::Args;
 use std::fmt;
+use std::io;
 
 #[derive(Drop)]
 pub enum Call {
@@ -12,19 +13,19 @@ pub enum Call {
 #[derive(Drop)]
 pub enum Misuse {
     NoFile,
-    TooMany(String),
+    Unexpected(String),
     UnknownOption(String),
-    // An argument is no text.
-    Unreadable,
+    // An argument is no text, or there is no memory for it.
+    Unreadable(io::Error),
 }
 
 pub impl fmt::Display for Misuse as MisuseDisplay {
     fn fmt<W: fmt::Write>(&self, f: &mut fmt::Formatter<W>) -> fmt::Result {
         match self {
-            Misuse::NoFile => write!(f, "which file of steps?"),
-            Misuse::TooMany(word) => write!(f, "one file is enough, and there is `{word}`"),
+            Misuse::NoFile => write!(f, "no file of steps is given"),
+            Misuse::Unexpected(word) => write!(f, "unexpected argument `{word}`"),
             Misuse::UnknownOption(word) => write!(f, "unknown option `{word}`"),
-            Misuse::Unreadable => write!(f, "an argument is not UTF-8"),
+            Misuse::Unreadable(why) => write!(f, "the arguments can't be read: {why}"),
         }
     }
 }
@@ -40,7 +41,7 @@ pub fn call_of(args: Args) -> Result<Call, Misuse> {
             return Err(Misuse::UnknownOption(word));
         }
         if call.is_ok() {
-            return Err(Misuse::TooMany(word));
+            return Err(Misuse::Unexpected(word));
         }
         call = Ok(Call::Carry(word));
     }

@@ -1,5 +1,6 @@
 // Carries out a file of steps: for each good that is put a line `6 on 30`, for each refusal `refused 5`.
 mod call;
+mod lines;
 mod run;
 
 use call::Call;
@@ -36,7 +37,7 @@ that is refused `refused` and why:
 carry --help prints this.";
 
 // What went wrong is told; the process ends with status 1.
-#[derive(Clone, Copy, Debug)]
+#[derive(Clone, Copy)]
 struct Failed;
 
 fn tell_misuse(rt: &LibcRuntime, misuse: &Misuse) -> Result<(), Failed> {
@@ -69,8 +70,9 @@ fn carry(rt: &LibcRuntime, file: &str) -> Result<(), Failed> {
 }
 
 fn main(rt: LibcRuntime) -> Result<(), Failed> {
-    let Ok(args) = env::args(&rt) else {
-        return tell_misuse(&rt, &Misuse::Unreadable);
+    let args = match env::args(&rt) {
+        Ok(args) => args,
+        Err(why) => return tell_misuse(&rt, &Misuse::Unreadable(why)),
     };
     match call_of(args) {
         Ok(Call::Help) => help(&rt),

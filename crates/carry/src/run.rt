@@ -1,4 +1,6 @@
 // Carrying out steps, and what is written of it.
+use crate::lines::Line;
+use crate::lines::LineDisplay;
 use owner::Failure;
 use owner::Hall;
 use placing::Command;
@@ -56,15 +58,14 @@ fn carry_out<W: Write>(
     match hall.tell(heap, command) {
         Ok(moves) => {
             for spot in moves.as_slice() {
-                let good = spot.good;
-                let shelf = spot.shelf;
-                writeln!(out, "{good} on {shelf}")?;
+                let line = Line::Put(*spot);
+                writeln!(out, "{line}")?;
             }
             Ok(())
         }
         Err(Failure::Refused(why)) => {
-            let number = why.number();
-            writeln!(out, "refused {number}")?;
+            let line = Line::Refused(why);
+            writeln!(out, "{line}")?;
             Ok(())
         }
         Err(Failure::NoMemory) => Err(Trouble::NoMemory),

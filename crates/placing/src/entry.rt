@@ -43,11 +43,18 @@ fn tell(act: Act, out: &mut [u64]) -> Told
     }
 }
 
+// Whether the memory has the machine's own length.
+fn is_whole(memory: &[u64]) -> bool
+    ensures { λ r. ⌜ r ≡ eqb (length (now (memory .entry))) 239635 ⌝ }
+{
+    memory.len() == WORDS
+}
+
 // Whether a step can be taken.
 fn fits(memory: &[u64], kind: u64, out: &[u64]) -> bool
     ensures { λ r. ⌜ r ≡ (eqb (length (now (memory .entry))) 239635 && (leb kind 5 && leb 2 (length (now (out .entry))))) ⌝ }
 {
-    memory.len() == WORDS && kind <= 5 && out.len() >= 2
+    is_whole(memory) && kind <= 5 && out.len() >= 2
 }
 
 // One step: kind 0 a good comes, 1 a good goes, 2 a shelf comes, 3 a shelf goes, 4 where is a good, 5 go on.
@@ -66,7 +73,7 @@ pub fn step(memory: &mut [u64], kind: u64, number: u64, out: &mut [u64]) -> Told
 pub fn act(memory: &mut [u64], request: Request) -> Option<Act>
     ensures { λ r. ⌜ Acts-in (now (memory .entry)) (event-of-request request) r (now (memory .exit)) ⌝ }
 {
-    if memory.len() != WORDS {
+    if !is_whole(memory) {
         return None;
     }
     // The proof reads off this call that the number has 64 bits.
