@@ -1,0 +1,5 @@
+-- The lemmas.
+pub mod Walk
+pub mod Places
+pub mod Counts
+pub mod Bounds
