@@ -1,6 +1,8 @@
 // The machine and another rule, side by side through the steps of a file.
 use crate::ours::Ours;
 use crate::ours::Told;
+use crate::progress::Progress;
+use crate::table::name;
 use crate::tally::Tally;
 use crate::trouble::Trouble;
 use crate::trouble::TroubleFromAlloc;
@@ -23,15 +25,18 @@ pub struct Contest {
 }
 
 // The machine beside each other rule.
-pub fn contests(heap: Global, path: &str, bytes: &[u8]) -> Result<Vec<Contest>, Trouble> {
+pub fn contests(rt: &LibcRuntime, path: &str, bytes: &[u8]) -> Result<Vec<Contest>, Trouble> {
+    let heap = rt.alloc();
     let mut contests = Vec::new(heap);
     for rule in [Rule::Remainders, Rule::Rendezvous, Rule::Jump, Rule::Ring] {
-        contests.push(pass(heap, path, bytes, rule)?)?;
+        contests.push(pass(rt, path, bytes, rule)?)?;
     }
     Ok(contests)
 }
 
-fn pass(heap: Global, path: &str, bytes: &[u8], rule: Rule) -> Result<Contest, Trouble> {
+fn pass(rt: &LibcRuntime, path: &str, bytes: &[u8], rule: Rule) -> Result<Contest, Trouble> {
+    let heap = rt.alloc();
+    let mut progress = Progress::new(rt);
     let mut ours = Ours::new(heap)?;
     let mut rival = Rival::new(heap, rule);
     let mut contest = Contest {
@@ -40,6 +45,7 @@ fn pass(heap: Global, path: &str, bytes: &[u8], rule: Rule) -> Result<Contest, T
         theirs: Tally::new(heap),
     };
     for (before, step) in Steps::new(bytes).enumerate() {
+        progress.tell(rt, name(rule), before);
         match step {
             Ok(command) => carry_out(heap, &mut contest, &mut ours, &mut rival, command)?,
             Err(flaw) => return Err(Trouble::Step {
@@ -49,6 +55,7 @@ fn pass(heap: Global, path: &str, bytes: &[u8], rule: Rule) -> Result<Contest, T
             }),
         }
     }
+    progress.end(rt);
     Ok(contest)
 }
 

@@ -2,6 +2,7 @@
 mod contest;
 mod ours;
 mod picture;
+mod progress;
 mod table;
 mod tally;
 mod trouble;
@@ -90,7 +91,7 @@ fn compare(rt: &LibcRuntime, steps: &str, svg: Option<String>) -> Result<(), Tro
             error,
         }),
     };
-    let contests = contests(heap, steps, bytes.as_slice())?;
+    let contests = contests(rt, steps, bytes.as_slice())?;
     println!(rt, "{}", table(heap, contests.as_slice())?)?;
     if let Some(file) = svg {
         let drawing = picture(heap, contests.as_slice())?;
