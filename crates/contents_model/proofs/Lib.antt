@@ -1,3 +1,4 @@
+-- The crate's proofs.
 pub mod Words
 pub mod Links
 pub mod Totals

@@ -1,3 +1,4 @@
+-- The crate's proofs.
 pub mod Keys
 pub mod Steps
 pub mod Paths

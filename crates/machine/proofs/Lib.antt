@@ -1,3 +1,4 @@
+-- The crate's proofs.
 pub mod Weighing
 pub mod Standing
 pub mod Steps

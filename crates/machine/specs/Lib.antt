@@ -1,3 +1,4 @@
+-- The crate's definitions.
 pub mod Interfaces
 pub mod Machine
 pub mod Relation

@@ -1,3 +1,4 @@
+-- The crate's proofs.
 pub mod Memory
 pub mod Laws
 pub mod Own

@@ -1,3 +1,4 @@
+-- The crate's definitions.
 pub mod Parts
 pub mod Memory
 pub mod Own

@@ -1,3 +1,4 @@
+-- The crate's proofs.
 pub mod Laws
 pub mod Cuts
 pub mod Cases

@@ -1,3 +1,4 @@
+-- The crate's definitions.
 pub mod Small
 pub mod Slots
 pub mod Parts

@@ -1,3 +1,4 @@
+-- What the search leaves open of `add_in`.
 use Rattle.contents_model.specs.Model.{add-at}
 use Rattle.contents_model.proofs.Laws.{add-law, add-keeps}
 use Rattle.contents.proofs.add_in.Needs as need

@@ -1,3 +1,4 @@
+-- What the search leaves open of `count_in`.
 use native.Mathlib.Omega.{arith}
 use Rattle.contents_model.proofs.Turns.{walk-short}
 use Rattle.contents.proofs.count_in.Needs as need

@@ -1,3 +1,4 @@
+-- What the search leaves open of `field`.
 use borrow.Author.Needs.{needs}
 use Rattle.contents_model.specs.Model.{field}
 use Rattle.contents.proofs.field.Needs as need

@@ -1,3 +1,4 @@
+-- What the search leaves open of `head`.
 use borrow.Author.Needs.{needs}
 use Rattle.contents_model.specs.Model.{head}
 use Rattle.contents.proofs.head.Needs as need

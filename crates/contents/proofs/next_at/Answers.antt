@@ -1,3 +1,4 @@
+-- What the search leaves open of `next_at`.
 use borrow.Author.Needs.{needs}
 use Rattle.contents_model.specs.Model.{next-at}
 use Rattle.contents.proofs.next_at.Needs as need

@@ -1,3 +1,4 @@
+-- What the search leaves open of `put_field`.
 use borrow.Author.Needs.{needs}
 use Rattle.contents_model.specs.Model.{put-field}
 use Rattle.contents.proofs.put_field.Needs as need

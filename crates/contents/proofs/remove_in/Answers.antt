@@ -1,3 +1,4 @@
+-- What the search leaves open of `remove_in`.
 use Rattle.contents_model.specs.Model.{remove-at}
 use Rattle.contents_model.proofs.Laws.{remove-law}
 use Rattle.contents.proofs.remove_in.Needs as need

@@ -1,3 +1,4 @@
+-- What the search leaves open of `walk_in`.
 use Rattle.contents_model.specs.Model.{walk}
 use Rattle.contents_model.proofs.Laws.{walk-law}
 use Rattle.contents.specs.View.{shown}

@@ -1,3 +1,4 @@
+-- What the search leaves open of `reads_stand`.
 use Rattle.contents_model.proofs.Laws.{first-law, next-law, walk-law, chain-law, bounds-law}
 use Rattle.contents_model.proofs.reads_stand.Needs as need
 

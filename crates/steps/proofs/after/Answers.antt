@@ -1,3 +1,4 @@
+-- What the search leaves open of `after`.
 use mathlib.Core.Path.{sym, _∙_, ap}
 use Rattle.std.proofs.shelf.Lists.{take-rest}
 use Rattle.std.specs.declared.option.Option.the-variants.{Some}

@@ -1,3 +1,4 @@
+-- What the search leaves open of `next`.
 use borrow.Author.Needs.{needs}
 use native.Mathlib.Omega.{arith}
 use Rattle.contents.specs.View.{shown}

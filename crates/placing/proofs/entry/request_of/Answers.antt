@@ -1,3 +1,4 @@
+-- What the search leaves open of `request_of`.
 use Rattle.placing.specs.Entry.{event-of}
 use Rattle.std.proofs.shelf.Ways.{tells}
 use native.Mathlib.Omega.{arith}

@@ -1,3 +1,4 @@
+-- What the search leaves open of `tell`.
 use borrow.Author.Needs.{needs}
 use mathlib.Core.Path.{refl}
 use Rattle.placing.specs.Entry.{Act-told}

@@ -1,3 +1,4 @@
+-- What the search leaves open of `insert_shelf`.
 use mathlib.Core.Path.{sym, ap, _∙_}
 use native.Mathlib.Omega.{arith}
 use lib.Dec.{lit<, lit≤}

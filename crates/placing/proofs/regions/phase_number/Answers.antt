@@ -1,3 +1,4 @@
+-- What the search leaves open of `phase_number`.
 use Rattle.words.specs.Parts.{cuts, part}
 use Rattle.placing_model.specs.Memory.{cut}
 use Rattle.placing.proofs.regions.phase_number.Needs as need

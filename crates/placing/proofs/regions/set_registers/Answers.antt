@@ -1,3 +1,4 @@
+-- What the search leaves open of `set_registers`.
 use mathlib.Core.Path.{ap, _∙_}
 use native.Mathlib.Omega.{arith}
 use lib.ListN.{set}

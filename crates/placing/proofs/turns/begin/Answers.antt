@@ -1,3 +1,4 @@
+-- What the search leaves open of `begin`.
 use Rattle.machine.specs.Machine.{command-turn}
 use Rattle.placing.proofs.turns.begin.Needs as need
 

@@ -1,3 +1,4 @@
+-- What the search leaves open of `empty_out`.
 use Rattle.machine.specs.Machine.{empties}
 use Rattle.placing.proofs.turns.empty_out.Needs as need
 

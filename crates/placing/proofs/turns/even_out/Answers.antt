@@ -1,3 +1,4 @@
+-- What the search leaves open of `even_out`.
 use Rattle.machine.specs.Machine.{evens}
 use Rattle.placing.proofs.turns.even_out.Needs as need
 

@@ -1,3 +1,4 @@
+-- What the search leaves open of `react`.
 use mathlib.Core.Path.{refl, _∙_}
 use Rattle.machine.specs.Machine.{turn-of}
 use Rattle.placing_model.specs.Memory.{cut}

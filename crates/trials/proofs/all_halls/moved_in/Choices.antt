@@ -1,3 +1,4 @@
+-- What the loop of `moved_in` keeps.
 use mathlib.Core.Path.{_≡_}
 use lib.ListN.{length}
 use Rattle.trials.proofs.all_halls.moved_in.Given as given
