@@ -1,4 +1,6 @@
 // Where goods are, and how many of them a change carries.
+#![tactic(auto)]
+
 mod assignment;
 mod loads;
 mod pair;

@@ -1,4 +1,6 @@
 // Carries out a file of steps: for each good that is put a line `6 on 30`, for each refusal `refused 5`.
+#![tactic(auto)]
+
 mod call;
 mod lines;
 mod run;

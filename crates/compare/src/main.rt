@@ -1,4 +1,6 @@
 // Carries out a file of steps by the machine and by other rules, and prints how many goods each carries.
+#![tactic(auto)]
+
 mod contest;
 mod ours;
 mod picture;

@@ -1,6 +1,8 @@
 // What is on each shelf: over one lent region, a doubly linked list of goods for each shelf.
 // The first 1,025 words hold the first good of each shelf slot; then come rows of three words, one for
 // each good slot: its shelf, the next good of that shelf, the previous one. 0 is none.
+#![tactic(auto)]
+
 ghost use Rattle.std.specs.Prelude.{◌≡◌, ◌+◌, ◌^◌, ◌<◌, length};
 ghost use Rattle.words.specs.Slots.{some_slot};
 ghost use Rattle.contents_model.specs.Model.{rows, field, head, shelf_at, first_at, next_at, previous_at, put_field, slot, added, add_at, removed, remove_at, walk_from, walk};

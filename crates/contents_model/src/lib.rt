@@ -1,4 +1,6 @@
 // What the contents' model means: its laws, for every region.
+#![tactic(auto)]
+
 ghost use Rattle.contents_model.specs.Laws.{EmptyLaw, RowsLaw, AddLaw, AddKeeps, RemoveLaw, KeptLaw, StillLaw, FirstLaw, NextLaw, BoundsLaw, WalkLaw, ChainLaw};
 
 // The region at the start.

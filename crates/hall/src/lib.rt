@@ -1,4 +1,6 @@
 // The theory of stores: each theorem is the contract of a small function.
+#![tactic(auto)]
+
 ghost use Rattle.hall.specs.Claims.{LevelLoads, LevelCount, MovedAlike, MovedTriangle, MovedThrough, FewestLower, FewestRight, PutsCount, InAndOut, GreedyRight, GreedyCan};
 ghost use Rattle.hall.specs.Promise.{GreedyKeeps};
 ghost use Rattle.hall.specs.Spring.{Spring};

@@ -3,6 +3,8 @@
 // Words 0 to 2: how many slots were ever taken, the first free slot, how many are in use. Then the heads, as many as
 // BITS bits can count (1 to 32 bits, whatever is asked for), then rows of three words: number, left link, right link.
 // Slots count from 1, 0 is none; what is no slot reads as none. All zeros are an empty index.
+#![tactic(auto)]
+
 ghost use Rattle.std.specs.Prelude.{◌≡◌, ◌^◌, ◌<◌, ◌≤◌};
 ghost use Rattle.words.specs.Slots.{some_slot};
 ghost use Rattle.index_model.specs.Laws.{InsertTells, RemoveTells};

@@ -1,4 +1,6 @@
 // The laws of the index, over its model: no running code, each theorem on the contract of a small function.
+#![tactic(auto)]
+
 ghost use Rattle.index_model.specs.Laws.{KeyLaw, EmptyLaw, FoundLaw, ApartLaw, CountLaw, InsertLaw, RemoveLaw, RefuseLaw, RoomLaw, BoundLaw, NarrowLaw};
 
 // A number of 64 bits has a key of its own.

@@ -2,6 +2,8 @@
 // The first 1,025 words hold the load of each slot; then come two winner trees of 2,048 words each, of the emptiest and
 // of the fullest. Slots count from 1 to 1,024, and 0 is none; all zeros are no shelves.
 // Of equally loaded shelves the one with the lower slot wins.
+#![tactic(auto)]
+
 ghost use Rattle.std.specs.Prelude.{◌≡◌, ◌+◌, ◌<◌, ◌≤◌, if◌then◌else◌, slice_index, slice_set};
 ghost use Rattle.words.specs.Slots.{some_slot};
 ghost use Rattle.loads_model.specs.Model.{a_slot, load_at, emptier, fuller, tree, leaf, winner_at, climb, replay, put_at, mark_at, emptiest_at, fullest_at, enter_at, leave_at, add_one_at, take_one_at};

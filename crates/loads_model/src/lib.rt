@@ -1,4 +1,6 @@
 // Shelves by load: the model's laws, each on the contract of a small function. No code runs here.
+#![tactic(auto)]
+
 ghost use Rattle.loads_model.specs.Laws.{EmptiestLaw, FullestLaw, EnterLaw, LeaveLaw, AddOneLaw, TakeOneLaw, SoundLaw, ElsewhereLaw, KeptLaw, EachChange, SmallLaw, ThereLaw, ZerosLaw, EmptyLaw, OrderLaw, RootLaw, ReplayLaw};
 
 // What the answers mean.

@@ -1,4 +1,6 @@
 // The hall: the machine with a memory of its own, told whole commands, one or a list of them.
+#![tactic(auto)]
+
 mod halls;
 mod runs;
 

@@ -1,4 +1,6 @@
 // The machine over one lent memory: one step, its acts and refusals.
+#![tactic(auto)]
+
 pub mod acts;
 mod entry;
 mod regions;

@@ -1,4 +1,6 @@
 // The machine over its memory, as a model: each theorem is the contract of a small function.
+#![tactic(auto)]
+
 ghost use Rattle.hall.specs.Promise.{Whole};
 ghost use Rattle.machine.specs.Acts.{Exactly};
 ghost use Rattle.placing_model.specs.Claims.{OwnBusy};

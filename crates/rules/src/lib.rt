@@ -1,4 +1,6 @@
 // How other rules place goods on shelves.
+#![tactic(auto)]
+
 mod hashing;
 mod rival;
 

@@ -1,4 +1,6 @@
 // The file format of steps: a byte for the kind and the number in eight bytes, low byte first.
+#![tactic(auto)]
+
 ghost use Rattle.std.specs.Prelude.{◌≡◌, length, Some};
 ghost use Rattle.steps.specs.Format.{kind_of, written, step_in, left_after, Reads, RoundTrip};
 ghost use Rattle.std.specs.Iterator.{at_most};

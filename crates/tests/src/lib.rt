@@ -1,4 +1,6 @@
 // Tests of the parts over lent memory and of the other rules, each beside a plain model.
+#![tactic(auto)]
+
 #[cfg(test)]
 mod contents_tests;
 #[cfg(test)]

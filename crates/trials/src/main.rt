@@ -1,4 +1,6 @@
 // Trials of the machine: what is run and not proved. A fault ends it with status 1.
+#![tactic(auto)]
+
 mod all_halls;
 mod chance;
 mod fault;

@@ -1,4 +1,6 @@
 // Total access to lent memory, and slots as answers: past the end 0 is read and nothing is written; slot 0 is none.
+#![tactic(auto)]
+
 ghost use Rattle.std.specs.Prelude.{◌≡◌, slice_index, slice_set};
 ghost use Rattle.words.specs.Slots.{some_slot};
 

@@ -1,4 +1,6 @@
 // Writes a file of steps: shelves and goods that come, and then weeks in which a shelf comes or goes.
+#![tactic(auto)]
+
 mod trouble;
 mod weeks;
 
