@@ -1,6 +1,6 @@
 -- A shelf that comes gets its share.
 use Rattle.std.proofs.Common.{◌≡◌, ℕ, suc, ◌+◌, ◌*◌, ◌/◌, ◌<◌, ◌≤◌, true, false, eqb, ◌⊎◌, List, [], ◌∷◌, ◌++◌, length, sym, refl, ap, ◌∙◌, inl, inr, arith}
-use native.Mathlib.Nat.{lt_mul_div_succ, mul_div_le}
+use native.Mathlib.Nat.{lt-mul-div-succ, mul-div-le}
 use Rattle.std.proofs.lemmas.Bool.Decides.{nat_tests}
 use Rattle.std.proofs.lemmas.Bool.{eqb-true}
 use Rattle.words.proofs.Cases.{by_test, by_order}
@@ -42,8 +42,8 @@ module _ (s : Store) (k : ℕ) (F : Fine s) (no : has s.shelves k ≡ false) whe
 pub shares : (f : ℕ → ℕ) (ks : List ℕ) (n q : ℕ) → Lev f ks → sum_of f ks + q ≡ n → q ≡ n / suc (length ks) → (i : ℕ) → has ks i ≡ true →
     (q ≤ f i) × (f i ≤ suc q)
 shares f ks n q v e d i h =
-    let low : suc (length ks) * q ≤ n = rw d (mul_div_le n (suc (length ks))) in
-    let high : n < suc (length ks) * (q + 1) = rw d (lt_mul_div_succ n (omega arith)) in (
+    let low : suc (length ks) * q ≤ n = rw d (mul-div-le n (suc (length ks))) in
+    let high : n < suc (length ks) * (q + 1) = rw d (lt-mul-div-succ n (omega arith)) in (
       by_order (f i) q
           (λ l. let x = sum_below f q ks i (all_from_has _ ks (λ j a. let y = v j i a h in omega arith)) h l in omega arith)
           (λ l. l),

@@ -1,6 +1,6 @@
 -- How many goods the shelves have.
 use Rattle.std.proofs.Common.{◌≡◌, ℕ, suc, ◌+◌, ◌-◌, ◌*◌, ◌/◌, ◌<◌, ◌≤◌, true, eqb, leb, List, [], ◌∷◌, length, ap, ◌∙◌, div-lt_iff_lt-mul, le-div_iff_mul-le, arith}
-use native.Mathlib.Nat.{div_add_mod}
+use native.Mathlib.Nat.{div-add-mod}
 use Rattle.std.proofs.lemmas.Bool.Decides.{nat_tests}
 use Rattle.std.proofs.lemmas.Bool.{leb-true}
 use Rattle.hall.specs.House.{every, any, has, distinct, Store, Spot, load, goods, fine, level}
@@ -55,4 +55,4 @@ level_count s f l =
     let b : sum_of (load s) s.shelves ≡ sum_of (λ k. q + bit (eqb (load s k) (suc q))) s.shelves =
     sum_same _ _ s.shelves (all_from_has _ s.shelves (λ k h. let x = level_loads s k f l h in grind (arith, nat_tests))) in
     let c = sum_add (λ k. q) (λ k. bit (eqb (load s k) (suc q))) s.shelves in
-    omega (arith, sum_const {A = ℕ} q s.shelves, sum_bits (λ k. eqb (load s k) (suc q)) s.shelves, div_add_mod (length s.spots) (length s.shelves))
+    omega (arith, sum_const {A = ℕ} q s.shelves, sum_bits (λ k. eqb (load s k) (suc q)) s.shelves, div-add-mod (length s.spots) (length s.shelves))

@@ -1,6 +1,6 @@
 -- Keys, and how their bits from the highest down lead to one number.
 use Rattle.std.proofs.Common.{◌≡◌, ℕ, zero, suc, ◌+◌, ◌-◌, ◌*◌, ◌/◌, ◌%◌, ◌^◌, ◌<◌, sym, ap, ◌∙◌, subst, ap₂, mod-lt, mod-eq_of_lt, div-lt_iff_lt-mul, arith}
-use native.Mathlib.Nat.{add_mul_mod_self_right, mod_add_div, two_pow_succ}
+use native.Mathlib.Nat.{add-mul-mod_self_right, mod-add-div, two-pow-succ}
 use Rattle.std.proofs.lemmas.Nat.{pow_pos, pow-add}
 use Rattle.std.proofs.lemmas.Bool.Decides.{nat_tests}
 use Rattle.index_model.specs.Model.{width, heads, span, levels, key, head, bit, left}
@@ -10,7 +10,7 @@ use Rattle.index_model.specs.Laws.{number_of_key, KeyLaw}
 -- multiplication by a constant that has an inverse modulo 2 ^ 64
 undo : (n p y z : ℕ) → p + y * 2 ^ 64 ≡ n + z * 2 ^ 64 → n < 2 ^ 64 → p % 2 ^ 64 ≡ n
 undo n p y z e h =
-    sym (add_mul_mod_self_right p y (2 ^ 64)) ∙ ap (λ (x : ℕ). x % 2 ^ 64) e ∙ add_mul_mod_self_right n z (2 ^ 64) ∙ mod-eq_of_lt h
+    sym (add-mul-mod_self_right p y (2 ^ 64)) ∙ ap (λ (x : ℕ). x % 2 ^ 64) e ∙ add-mul-mod_self_right n z (2 ^ 64) ∙ mod-eq_of_lt h
 
 pub key_law : KeyLaw
 unfolding key
@@ -33,7 +33,7 @@ head_low bits n =
 pub key_parts : (bits n m : ℕ) → head bits n ≡ head bits m → rest bits n 0 ≡ rest bits m 0 → key n ≡ key m
 unfolding head
 key_parts bits n m e f =
-    sym (mod_add_div (key n) (span bits)) ∙ ap₂ (λ (x y : ℕ). x + span bits * y) f e ∙ mod_add_div (key m) (span bits)
+    sym (mod-add-div (key n) (span bits)) ∙ ap₂ (λ (x y : ℕ). x + span bits * y) f e ∙ mod-add-div (key m) (span bits)
 
 pub turn_low : (bits n d : ℕ) → turn bits n d < 2
 unfolding turn
@@ -51,7 +51,7 @@ half_is : (bits d k : ℕ) → k + d ≡ 64 - width bits → half bits d ≡ 2 ^
 unfolding span
 half_is bits zero k e = ap (λ (x : ℕ). 2 ^ x / 2) (sym (omega arith))
 half_is bits (suc d) k e =
-    let twice = two_pow_succ k in
+    let twice = two-pow-succ k in
     let more = half_is bits d (suc k) (omega arith) in
     omega arith
 
@@ -64,7 +64,7 @@ rest_small bits n zero k e =
     let all : 64 - width bits ≡ k = omega arith in
     subst (λ (x : ℕ). key n % 2 ^ (64 - width bits) < 2 ^ x) all (mod-lt (key n) (pow_pos (64 - width bits)))
 rest_small bits n (suc d) k e =
-    let twice = two_pow_succ k in
+    let twice = two-pow-succ k in
     let is = half_is bits d (suc k) (omega arith) in
     let more = rest_small bits n d (suc k) (omega arith) in
     below (half bits d) (rest bits n d) (2 ^ k) (omega arith) (omega arith)
