@@ -139,7 +139,7 @@ module _ (P : Parts) (Q : Laws P) where
       shows = record {
         stands = stand_carry P Q m.goods m.shelves m.contents ks ps w.stands g j i (sub _ in_os);
         weighs = weigh_same P Q m.shelves _ os _ (on (put_spot ps g j))
-            (weigh_add P Q m.shelves m.loads os (on ps) (λ i. on ps i + bit (eqb j i)) j w.stands.shelves_sound w.weighs in_os (other_room ps g j 32768 i (λ same. apart (sym same ∙ a)) w.stands.goods_room) (λ i. refl))
+            (weigh_add P Q m.shelves m.loads os (on ps) (λ i. on ps i + bit (eqb j i)) j w.stands.shelves_sound w.weighs in_os (let few = other_room ps g j 32768 i (λ same. apart (sym same ∙ a)) w.stands.goods_room in omega arith) (λ i. refl))
             (λ i₁ b. let p = put_on ps g j i₁ i in grind (arith, nat_tests));
       };
       phase = refl;

@@ -7,7 +7,7 @@ pub returns : goal.returns
 unfolding add_at
 returns c =
     record {
-      is = c.push-front.ensures;
-      sound = λ h. rw c.push-front.ensures (add_keeps c.args.memory.now c.args.shelf c.args.good h);
-      placed = λ h fits. rw c.push-front.ensures (add_law c.args.memory.now c.args.shelf c.args.good h fits);
+      is = c.push_front.ensures;
+      sound = λ h. rw c.push_front.ensures (add_keeps c.args.memory.now c.args.shelf c.args.good h);
+      placed = λ h fits. rw c.push_front.ensures (add_law c.args.memory.now c.args.shelf c.args.good h fits);
     }

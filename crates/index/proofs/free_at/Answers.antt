@@ -5,4 +5,4 @@ use Rattle.index.proofs.free_at.Goals as goal
 
 pub returns : goal.returns
 unfolding free_at
-returns g c = c.slot-of.ensures.is ∙ ap (slot_of g.row.BITS c.args.memory.now) c.read.ensures
+returns g c = c.slot_of.ensures.is ∙ ap (slot_of g.row.BITS c.args.memory.now) c.read.ensures

@@ -7,5 +7,5 @@ use Rattle.index.proofs.insert_in.Goals as goal
 pub returns : goal.returns
 unfolding insert_slot insert_in
 returns g c =
-    let e = c.insert-row.ensures in
+    let e = c.insert_row.ensures in
     record { says = e.says; after = e.after; law = insert_tells g.row.BITS _ _ c.args.number _ e.says e.after (omega arith) }

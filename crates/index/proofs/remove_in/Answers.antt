@@ -6,5 +6,5 @@ use Rattle.index.proofs.remove_in.Goals as goal
 pub returns : goal.returns
 unfolding find_at remove_in
 returns g c =
-    let e = c.remove-row.ensures in
+    let e = c.remove_row.ensures in
     record { says = e.says; after = e.after; law = remove_tells g.row.BITS _ _ c.args.number _ e.says e.after }

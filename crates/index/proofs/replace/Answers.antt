@@ -10,5 +10,5 @@ returns g c =
     replace_by g.row.BITS _ _ _ _ _ _ c.args.link x y _ _ _ _ _ _
     (ap (λ (h : ℕ). h + 2 * x) c.heads.ensures.is ∙ sym (add-zero _)) (ap (λ (h : ℕ). h + 2 * x + 1) c.heads.ensures.is)
     (ap (λ (h : ℕ). h + 2 * y) c.heads-2.ensures.is ∙ sym (add-zero _)) (ap (λ (h : ℕ). h + 2 * y + 1) c.heads-2.ensures.is)
-    c.slot-at-left.ensures.is c.slot-at-right.ensures.is
+    c.slot_at-left.ensures.is c.slot_at-right.ensures.is
     c.put.ensures c.put-2.ensures c.put-3.ensures c.put-4.ensures c.put-5.ensures

@@ -4,8 +4,8 @@ use Rattle.index_model.proofs.Steps.{slot_in}
 use Rattle.index.proofs.Steps.{slot_out}
 use Rattle.index.proofs.slot_of.Goals as goal
 
-pub returns-then-value-capacity-in : goal.returns-then-value-capacity-in
-returns-then-value-capacity-in g c = record { is = slot_in g.row.BITS c.args.memory.now c.args.value (omega arith); small = omega arith }
+pub returns-then-value-capacity_in : goal.returns-then-value-capacity_in
+returns-then-value-capacity_in g c = record { is = slot_in g.row.BITS c.args.memory.now c.args.value (omega arith); small = omega arith }
 
-pub returns-else-value-capacity-in : goal.returns-else-value-capacity-in
-returns-else-value-capacity-in g c = record { is = slot_out g.row.BITS c.args.memory.now c.args.value (omega arith); small = omega arith }
+pub returns-else-value-capacity_in : goal.returns-else-value-capacity_in
+returns-else-value-capacity_in g c = record { is = slot_out g.row.BITS c.args.memory.now c.args.value (omega arith); small = omega arith }

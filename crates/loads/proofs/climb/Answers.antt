@@ -14,7 +14,7 @@ returns-then-best-slot c =
 
 pub loop-step-preserved : goal.loop-step-preserved
 loop-step-preserved c = (
-  ap (λ (m : List ℕ). climb (order_of c.args.side) (base_of c.args.side) c.args.slot (10 - (c.loop-step.step + 1)) m (c.loop-step.place / 2)) c.set-at.ensures
+  ap (λ (m : List ℕ). climb (order_of c.args.side) (base_of c.args.side) c.args.slot (10 - (c.loop-step.step + 1)) m (c.loop-step.place / 2)) c.set_at.ensures
       ∙ sym (climb_on (order_of c.args.side) (base_of c.args.side) c.args.slot c.loop-step.memory c.loop-step.place (10 - c.loop-step.step) (10 - (c.loop-step.step + 1))
       c.winner-best.result c.at.result (omega arith) c.winner-best.ensures c.at.ensures
       (elim c.else-best-at.branch [ else-best-at-via-then-best-at+else-best-slot w ↦ inr w.if-best-slot.false | else-best-at-via-else-best-at w ↦ inl w.if-best-at.false ]))

@@ -4,4 +4,4 @@ use Rattle.loads.proofs.load_of_in.Goals as goal
 
 pub returns : goal.returns
 unfolding load_at
-returns c = c.word-of.ensures
+returns c = c.word_of.ensures

@@ -8,24 +8,24 @@ use Rattle.assignments.proofs.assignment.changed.Goals as goal
 
 pub loop-i-preserved-in-Gone : goal.loop-i-preserved-in-Gone
 loop-i-preserved-in-Gone c =
-    let turn = turn_left c.args.before.now c.args.after.now c.loop-i.i c.loop-i.j zeros c.requires.before-ascends c.requires.after-ascends c.loop-i-test.true c.if-j-after.true c.in-Gone.ensures
+    let turn = turn_left c.args.before.now c.args.after.now c.loop-i.i c.loop-i.j zeros c.requires.before_ascends c.requires.after_ascends c.loop-i-test.true c.if-j-after.true c.in-Gone.ensures
     in (ap (λ n. c.loop-i.count + n) (sym turn) ∙ c.loop-i.invariant.0, omega arith)
 
 pub loop-i-preserved-in-New : goal.loop-i-preserved-in-New
 loop-i-preserved-in-New c =
-    let turn = turn_right c.args.before.now c.args.after.now c.loop-i.i c.loop-i.j zeros c.requires.before-ascends c.requires.after-ascends c.loop-i-test.true c.if-j-after.true c.in-New.ensures
+    let turn = turn_right c.args.before.now c.args.after.now c.loop-i.i c.loop-i.j zeros c.requires.before_ascends c.requires.after_ascends c.loop-i-test.true c.if-j-after.true c.in-New.ensures
     in (ap (λ n. c.loop-i.count + n) (sym turn) ∙ c.loop-i.invariant.0, omega arith)
 
 pub loop-i-preserved-in-Stays : goal.loop-i-preserved-in-Stays
 loop-i-preserved-in-Stays c =
     let same = c.in-Stays.ensures in
-    let turn = turn_both c.args.before.now c.args.after.now c.loop-i.i c.loop-i.j zeros c.requires.before-ascends c.requires.after-ascends c.loop-i-test.true c.if-j-after.true same.0
+    let turn = turn_both c.args.before.now c.args.after.now c.loop-i.i c.loop-i.j zeros c.requires.before_ascends c.requires.after_ascends c.loop-i-test.true c.if-j-after.true same.0
     in grind (arith, nat_tests)
 
 pub loop-i-preserved : goal.loop-i-preserved
 loop-i-preserved c =
     let other = c.in-Moves.ensures in
-    let turn = turn_both c.args.before.now c.args.after.now c.loop-i.i c.loop-i.j zeros c.requires.before-ascends c.requires.after-ascends c.loop-i-test.true c.if-j-after.true other.0
+    let turn = turn_both c.args.before.now c.args.after.now c.loop-i.i c.loop-i.j zeros c.requires.before_ascends c.requires.after_ascends c.loop-i-test.true c.if-j-after.true other.0
     in grind (arith, nat_tests)
 
 -- at the end of one of the lists nothing is left to count

@@ -7,7 +7,7 @@ use Rattle.assignments.proofs.assignment.put_in.Goals as goal
 
 pub returns-in-Ok : goal.returns-in-Ok
 returns-in-Ok c =
-    let at = here_in _ _ _ _ c.as-slice.ensures.value c.in-Ok.ensures
+    let at = here_in _ _ _ _ c.as_slice.ensures.value c.in-Ok.ensures
     in record {
       ascending = ascends_set (vec_items c.args.spots.now) c.in-Ok.i c.args.spot c.requires at.same;
       shelves = shelf_set (vec_items c.args.spots.now) c.in-Ok.i c.args.spot at.place at.inside at.same;
@@ -15,7 +15,7 @@ returns-in-Ok c =
 
 pub returns-in-ok-insert : goal.returns-in-ok-insert
 returns-in-ok-insert c =
-    let at = gap_in _ _ _ _ c.as-slice.ensures.value c.in-Err.ensures
+    let at = gap_in _ _ _ _ c.as_slice.ensures.value c.in-Err.ensures
     in let items = c.insert.ensures.items ∙ ap (λ r. cond (is_ok r) (insert (vec_items c.args.spots.now) c.in-Err.i c.args.spot) (vec_items c.args.spots.now)) c.in-ok-insert.was
     in record {
       ascending = ap ascends items ∙ ascends_inserted (vec_items c.args.spots.now) c.in-Err.i c.args.spot c.requires at.place at.other;

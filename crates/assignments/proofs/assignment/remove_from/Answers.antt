@@ -6,7 +6,7 @@ use Rattle.assignments.proofs.assignment.remove_from.Goals as goal
 
 pub returns-in-Ok : goal.returns-in-Ok
 returns-in-Ok c =
-    let at = here_in _ _ _ _ c.as-slice.ensures.value c.in-Ok.ensures
+    let at = here_in _ _ _ _ c.as_slice.ensures.value c.in-Ok.ensures
     in record {
       ascending = ap ascends c.remove.ensures.items ∙ ascends_removed (vec_items c.args.spots.now) c.in-Ok.i c.requires;
       shelves = λ g. ap (λ xs. shelf_in xs g) c.remove.ensures.items ∙ shelf_removed (vec_items c.args.spots.now) c.in-Ok.i c.args.good c.requires at.place at.inside at.same g;
@@ -14,6 +14,6 @@ returns-in-Ok c =
 
 pub returns-in-default : goal.returns-in-default
 returns-in-default c =
-    let at = gap_in _ _ _ _ c.as-slice.ensures.value c.in-default.ensures
+    let at = gap_in _ _ _ _ c.as_slice.ensures.value c.in-default.ensures
     in let none = missing (vec_items c.args.spots.now) c.in-default.field-0 c.args.good c.requires at.place at.other
     in record { ascending = c.requires; shelves = without (vec_items c.args.spots.now) c.args.good none }

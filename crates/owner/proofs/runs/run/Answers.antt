@@ -8,17 +8,17 @@ loop-turn-init c =
     let z : c.args.acts - 0 ≡ c.args.acts = omega arith in
     (c.requires.whole, c.args.moves.now.ok.0 ∙ ap length c.requires.fresh, c.requires.room, start_runs _ _ _ _ _ z c.requires.fresh)
 
-pub push-reserved-requires : goal.push-reserved-requires
-push-reserved-requires c = let i = c.loop-turn.invariant in omega arith
+pub push_reserved-requires : goal.push_reserved-requires
+push_reserved-requires c = let i = c.loop-turn.invariant in omega arith
 
 pub loop-turn-preserved : goal.loop-turn-preserved
 loop-turn-preserved c =
     let i = c.loop-turn.invariant in
     let p = runs_puts (c.args.acts - c.loop-turn.turn) (c.args.acts - (c.loop-turn.turn + 1)) _ _ _ _ (omega arith) _ _ c.in-Puts.is c.in-Some.ensures.1 in (
       omega arith,
-      omega (arith, c.push-reserved.ensures.len),
-      omega (arith, c.push-reserved.ensures.capacity),
-      runs_on _ _ _ _ _ _ c.push-reserved.ensures.items (sym p ∙ i.3),
+      omega (arith, c.push_reserved.ensures.len),
+      omega (arith, c.push_reserved.ensures.capacity),
+      runs_on _ _ _ _ _ _ c.push_reserved.ensures.items (sym p ∙ i.3),
     )
 
 pub returns-in-Done : goal.returns-in-Done

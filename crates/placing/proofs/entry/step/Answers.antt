@@ -11,4 +11,4 @@ pub returns : goal.returns
 returns c =
     let fit = sym c.if-not-fits.ensures in
     let long : length c.args.memory.now ≡ 239635 = eqb-true _ _ (and_parts _ _ fit).0 in
-    step_taken _ _ _ _ _ _ c.react-act.result _ _ fit (omega arith) long (omega arith) c.request-of.ensures c.react-act.ensures c.tell.ensures
+    step_taken _ _ _ _ _ _ c.react-act.result _ _ fit (omega arith) long (omega arith) c.request_of.ensures c.react-act.ensures c.tell.ensures

@@ -7,4 +7,4 @@ use Rattle.placing.proofs.regions.add_good.Goals as goal
 
 pub returns : goal.returns
 unfolding cut cuts part
-returns c = cut_region 4 c.args.memory.now c.add-in.new.memory _ (lit< tt) (lit≤ tt) c.requires (omega arith) c.add-in.ensures.is
+returns c = cut_region 4 c.args.memory.now c.add_in.new.memory _ (lit< tt) (lit≤ tt) c.requires (omega arith) c.add_in.ensures.is

@@ -5,4 +5,4 @@ use Rattle.placing.proofs.regions.emptiest_shelf.Goals as goal
 
 pub returns : goal.returns
 unfolding cut cuts part
-returns c = c.emptiest-in.ensures
+returns c = c.emptiest_in.ensures

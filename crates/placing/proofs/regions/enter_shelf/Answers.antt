@@ -7,4 +7,4 @@ use Rattle.placing.proofs.regions.enter_shelf.Goals as goal
 
 pub returns : goal.returns
 unfolding cut cuts part
-returns c = cut_region 3 c.args.memory.now c.enter-in.new.memory _ (lit< tt) (lit≤ tt) c.requires (omega arith) c.enter-in.ensures
+returns c = cut_region 3 c.args.memory.now c.enter_in.new.memory _ (lit< tt) (lit≤ tt) c.requires (omega arith) c.enter_in.ensures

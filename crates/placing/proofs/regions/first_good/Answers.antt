@@ -5,4 +5,4 @@ use Rattle.placing.proofs.regions.first_good.Goals as goal
 
 pub returns : goal.returns
 unfolding cut cuts part
-returns c = c.first-in.ensures
+returns c = c.first_in.ensures

@@ -5,4 +5,4 @@ use Rattle.placing.proofs.regions.fullest_shelf.Goals as goal
 
 pub returns : goal.returns
 unfolding cut cuts part
-returns c = c.fullest-in.ensures
+returns c = c.fullest_in.ensures

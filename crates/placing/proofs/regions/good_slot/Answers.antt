@@ -5,4 +5,4 @@ use Rattle.placing.proofs.regions.good_slot.Goals as goal
 
 pub returns : goal.returns
 unfolding cut cuts part
-returns c = c.find-in.ensures
+returns c = c.find_in.ensures

@@ -5,4 +5,4 @@ use Rattle.placing.proofs.regions.goods_count.Goals as goal
 
 pub returns : goal.returns
 unfolding cut cuts part
-returns c = c.count-in.ensures
+returns c = c.count_in.ensures

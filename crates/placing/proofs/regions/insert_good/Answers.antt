@@ -12,9 +12,9 @@ use Rattle.placing.proofs.regions.insert_good.Goals as goal
 pub returns : goal.returns
 unfolding cut cuts part
 returns c =
-    let after = cut_region 1 c.args.memory.now c.insert-in.new.memory _ (lit< tt) (lit≤ tt) c.requires (omega arith) c.insert-in.ensures.after in
+    let after = cut_region 1 c.args.memory.now c.insert_in.new.memory _ (lit< tt) (lit≤ tt) c.requires (omega arith) c.insert_in.ensures.after in
     record {
-      says = c.insert-in.ensures.says;
+      says = c.insert_in.ensures.says;
       after = after;
-      refused = λ e. after ∙ ap (with_goods parts (cut c.args.memory.now)) ((refuse_law _ _ _).same (slot_none _ (sym e ∙ c.insert-in.ensures.says)));
+      refused = λ e. after ∙ ap (with_goods parts (cut c.args.memory.now)) ((refuse_law _ _ _).same (slot_none _ (sym e ∙ c.insert_in.ensures.says)));
     }

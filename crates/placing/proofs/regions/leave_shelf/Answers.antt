@@ -7,4 +7,4 @@ use Rattle.placing.proofs.regions.leave_shelf.Goals as goal
 
 pub returns : goal.returns
 unfolding cut cuts part
-returns c = cut_region 3 c.args.memory.now c.leave-in.new.memory _ (lit< tt) (lit≤ tt) c.requires (omega arith) c.leave-in.ensures
+returns c = cut_region 3 c.args.memory.now c.leave_in.new.memory _ (lit< tt) (lit≤ tt) c.requires (omega arith) c.leave_in.ensures

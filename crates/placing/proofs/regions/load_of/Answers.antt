@@ -5,4 +5,4 @@ use Rattle.placing.proofs.regions.load_of.Goals as goal
 
 pub returns : goal.returns
 unfolding cut cuts part
-returns c = c.load-of-in.ensures
+returns c = c.load_of_in.ensures

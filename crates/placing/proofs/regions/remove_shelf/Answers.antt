@@ -7,4 +7,4 @@ use Rattle.placing.proofs.regions.remove_shelf.Goals as goal
 
 pub returns : goal.returns
 unfolding cut cuts part
-returns c = cut_region 2 c.args.memory.now c.remove-in.new.memory _ (lit< tt) (lit≤ tt) c.requires (omega arith) c.remove-in.ensures.after
+returns c = cut_region 2 c.args.memory.now c.remove_in.new.memory _ (lit< tt) (lit≤ tt) c.requires (omega arith) c.remove_in.ensures.after

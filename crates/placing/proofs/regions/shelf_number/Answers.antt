@@ -5,4 +5,4 @@ use Rattle.placing.proofs.regions.shelf_number.Goals as goal
 
 pub returns : goal.returns
 unfolding cut cuts part
-returns c = c.number-of-in.ensures
+returns c = c.number_of_in.ensures

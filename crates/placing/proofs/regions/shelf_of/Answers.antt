@@ -5,4 +5,4 @@ use Rattle.placing.proofs.regions.shelf_of.Goals as goal
 
 pub returns : goal.returns
 unfolding cut cuts part
-returns c = c.shelf-of-in.ensures
+returns c = c.shelf_of_in.ensures

@@ -7,4 +7,4 @@ use Rattle.placing.proofs.regions.take_load.Goals as goal
 
 pub returns : goal.returns
 unfolding cut cuts part
-returns c = cut_region 3 c.args.memory.now c.take-one-in.new.memory _ (lit< tt) (lit≤ tt) c.requires (omega arith) c.take-one-in.ensures
+returns c = cut_region 3 c.args.memory.now c.take_one_in.new.memory _ (lit< tt) (lit≤ tt) c.requires (omega arith) c.take_one_in.ensures

@@ -4,4 +4,4 @@ use Rattle.placing.proofs.turns.empty_out.Goals as goal
 
 pub returns : goal.returns
 unfolding empties
-returns c = c.send-one.ensures
+returns c = c.send_one.ensures

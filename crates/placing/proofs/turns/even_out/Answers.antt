@@ -4,4 +4,4 @@ use Rattle.placing.proofs.turns.even_out.Goals as goal
 
 pub returns : goal.returns
 unfolding evens
-returns c = c.give-one.ensures
+returns c = c.give_one.ensures

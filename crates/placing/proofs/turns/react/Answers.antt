@@ -7,12 +7,12 @@ use Rattle.placing.proofs.turns.react.Goals as goal
 
 pub returns-in-default : goal.returns-in-default
 unfolding turn_of
-returns-in-default c = rw c.in-default.is c.go-on.ensures
+returns-in-default c = rw c.in-default.is c.go_on.ensures
 
-pub returns-in-default-current-phase : goal.returns-in-default-current-phase
+pub returns-in-default-current_phase : goal.returns-in-default-current_phase
 unfolding turn_of
-returns-in-default-current-phase c =
-    let e = idle_no (cut c.args.memory.now).phase (λ q. c.in-default-current-phase.not-Idle (c.current-phase.ensures ∙ q)) in
+returns-in-default-current_phase c =
+    let e = idle_no (cut c.args.memory.now).phase (λ q. c.in-default-current_phase.not-Idle (c.current_phase.ensures ∙ q)) in
     rw (c.in-Carry.is, e) (record { left = refl; says = refl })
 
 pub returns : goal.returns

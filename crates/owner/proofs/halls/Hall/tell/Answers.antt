@@ -10,7 +10,7 @@ invariant-of-self c = (
   c.args.self.now.whole,
   (
     run_kept _ _ _ _ c.run.ensures.small c.args.self.now.reached c.run.result
-        (as_run _ _ _ _ _ _ _ _ _ c.acts-for-acts.ensures c.as-mut-slice.ensures.value (with_items_is c.args.self.now.memory c.run.new.memory (omega arith)) c.run.ensures.ran),
+        (as_run _ _ _ _ _ _ _ _ _ c.acts_for-acts.ensures c.as_mut_slice.ensures.value (with_items_is c.args.self.now.memory c.run.new.memory (omega arith)) c.run.ensures.ran),
     tt,
   ),
 )
@@ -18,13 +18,13 @@ invariant-of-self c = (
 pub unreachable-requires : goal.unreachable-requires
 unreachable-requires c =
     let e = c.in-Unfinished.ensures in
-    run_not _ _ _ _ e.small c.args.self.now.reached (as_run _ _ _ _ _ _ _ _ _ c.acts-for-acts.ensures c.as-mut-slice.ensures.value (with_items_is c.args.self.now.memory c.run.new.memory (omega arith)) e.ran)
+    run_not _ _ _ _ e.small c.args.self.now.reached (as_run _ _ _ _ _ _ _ _ _ c.acts_for-acts.ensures c.as_mut_slice.ensures.value (with_items_is c.args.self.now.memory c.run.new.memory (omega arith)) e.ran)
 
 pub returns-in-Done : goal.returns-in-Done
 returns-in-Done c =
     let e = c.in-Done.ensures in
     record {
-      right = λ s h. run_done _ _ s _ _ 0 h e.small (as_run _ _ _ _ _ _ _ _ _ c.acts-for-acts.ensures c.as-mut-slice.ensures.value (with_items_is c.args.self.now.memory c.run.new.memory (omega arith)) e.ran) refl;
+      right = λ s h. run_done _ _ s _ _ 0 h e.small (as_run _ _ _ _ _ _ _ _ _ c.acts_for-acts.ensures c.as_mut_slice.ensures.value (with_items_is c.args.self.now.memory c.run.new.memory (omega arith)) e.ran) refl;
       same = λ q. grind arith;
     }
 
@@ -32,6 +32,6 @@ pub returns-in-Refused : goal.returns-in-Refused
 returns-in-Refused c =
     let e = c.in-Refused.ensures in
     record {
-      right = run_stays _ _ _ _ e.small c.args.self.now.reached _ (refusal_some c.in-Refused.why) (as_run _ _ _ _ _ _ _ _ _ c.acts-for-acts.ensures c.as-mut-slice.ensures.value (with_items_is c.args.self.now.memory c.run.new.memory (omega arith)) e.ran);
-      same = λ q. run_same _ _ _ _ e.small c.args.self.now.reached _ (refusal_some c.in-Refused.why) (as_run _ _ _ _ _ _ _ _ _ c.acts-for-acts.ensures c.as-mut-slice.ensures.value (with_items_is c.args.self.now.memory c.run.new.memory (omega arith)) e.ran);
+      right = run_stays _ _ _ _ e.small c.args.self.now.reached _ (refusal_some c.in-Refused.why) (as_run _ _ _ _ _ _ _ _ _ c.acts_for-acts.ensures c.as_mut_slice.ensures.value (with_items_is c.args.self.now.memory c.run.new.memory (omega arith)) e.ran);
+      same = λ q. run_same _ _ _ _ e.small c.args.self.now.reached _ (refusal_some c.in-Refused.why) (as_run _ _ _ _ _ _ _ _ _ c.acts_for-acts.ensures c.as_mut_slice.ensures.value (with_items_is c.args.self.now.memory c.run.new.memory (omega arith)) e.ran);
     }

@@ -4,4 +4,4 @@ use Rattle.placing.proofs.Steps.{number_is}
 use Rattle.placing.proofs.acts.Command.number.Goals as goal
 
 pub returns : goal.returns
-returns c = c.number-in.ensures ∙ number_is c.args.self
+returns c = c.number_in.ensures ∙ number_is c.args.self
