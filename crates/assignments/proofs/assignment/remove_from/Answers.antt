@@ -12,8 +12,8 @@ returns-in-Ok c =
       shelves = λ g. ap (λ xs. shelf_in xs g) c.remove.ensures.items ∙ shelf_removed (vec_items c.args.spots.now) c.in-Ok.i c.args.good c.requires at.place at.inside at.same g;
     }
 
-pub returns-in-default : goal.returns-in-default
-returns-in-default c =
-    let at = gap_in _ _ _ _ c.as_slice.ensures.value c.in-default.ensures
-    in let none = missing (vec_items c.args.spots.now) c.in-default.field-0 c.args.good c.requires at.place at.other
+pub returns-in_default : goal.returns-in_default
+returns-in_default c =
+    let at = gap_in _ _ _ _ c.as_slice.ensures.value c.in_default.ensures
+    in let none = missing (vec_items c.args.spots.now) c.in_default.field-0 c.args.good c.requires at.place at.other
     in record { ascending = c.requires; shelves = without (vec_items c.args.spots.now) c.args.good none }

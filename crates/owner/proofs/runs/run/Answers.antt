@@ -39,8 +39,8 @@ returns-in-Refused c =
       ran = sym i.3 ∙ runs_refused (c.args.acts - c.loop-turn.turn) (c.args.acts - suc c.loop-turn.turn) _ _ _ _ (omega arith) _ _ c.in-Refused.is c.in-Some.ensures.1;
     }
 
-pub returns-in-default : goal.returns-in-default
-returns-in-default c = absurd (c.in-default.ensures.0 c.loop-turn.invariant.0)
+pub returns-in_default : goal.returns-in_default
+returns-in_default c = absurd (c.in_default.ensures.0 c.loop-turn.invariant.0)
 
 pub returns : goal.returns
 returns c =

@@ -5,14 +5,14 @@ use Rattle.placing_model.specs.Memory.{cut}
 use Rattle.placing.proofs.Taking.{idle_yes, idle_no}
 use Rattle.placing.proofs.turns.react.Goals as goal
 
-pub returns-in-default : goal.returns-in-default
+pub returns-in_default : goal.returns-in_default
 unfolding turn_of
-returns-in-default c = rw c.in-default.is c.go_on.ensures
+returns-in_default c = rw c.in_default.is c.go_on.ensures
 
-pub returns-in-default-current_phase : goal.returns-in-default-current_phase
+pub returns-in_default-current_phase : goal.returns-in_default-current_phase
 unfolding turn_of
-returns-in-default-current_phase c =
-    let e = idle_no (cut c.args.memory.now).phase (λ q. c.in-default-current_phase.not-Idle (c.current_phase.ensures ∙ q)) in
+returns-in_default-current_phase c =
+    let e = idle_no (cut c.args.memory.now).phase (λ q. c.in_default-current_phase.not-Idle (c.current_phase.ensures ∙ q)) in
     rw (c.in-Carry.is, e) (record { left = refl; says = refl })
 
 pub returns : goal.returns

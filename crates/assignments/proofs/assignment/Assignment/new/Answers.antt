@@ -3,6 +3,6 @@ use Rattle.std.proofs.Common.{ap}
 use Rattle.assignments.specs.Spots.{ascends}
 use Rattle.assignments.proofs.assignment.Assignment.new.Goals as goal
 
-pub invariant-of-result : goal.invariant-of-result
+pub invariant_of-result : goal.invariant_of-result
 unfolding ascends
-invariant-of-result c = (ap ascends c.new.ensures.items, tt)
+invariant_of-result c = (ap ascends c.new.ensures.items, tt)

@@ -11,8 +11,8 @@ started : (m : List ℕ) → m ≡ replicate 239635 0 → Reached m nothing
 unfolding own zeros
 started m e = subst (λ k. Reached k nothing) (sym e) reached_start
 
-pub invariant-of-result : goal.invariant-of-result
-invariant-of-result c = let e = c.in-ok-memory.ensures in (e.len, (∣ (nothing, started _ (e.items-if-clones-equal (λ y q. q))) ∣₁, tt))
+pub invariant_of-result : goal.invariant_of-result
+invariant_of-result c = let e = c.in_ok-memory.ensures in (e.len, (∣ (nothing, started _ (e.items-if-clones-equal (λ y q. q))) ∣₁, tt))
 
 pub returns : goal.returns
-returns c = started _ (c.in-ok-memory.ensures.items-if-clones-equal (λ y q. q))
+returns c = started _ (c.in_ok-memory.ensures.items-if-clones-equal (λ y q. q))

@@ -5,8 +5,8 @@ use Rattle.placing_model.proofs.Reaching.{run_done}
 use Rattle.owner.proofs.Telling.{refusal_some, run_kept, run_not, run_same, run_stays, as_run}
 use Rattle.owner.proofs.halls.Hall.tell.Goals as goal
 
-pub invariant-of-self : goal.invariant-of-self
-invariant-of-self c = (
+pub invariant_of-self : goal.invariant_of-self
+invariant_of-self c = (
   c.args.self.now.whole,
   (
     run_kept _ _ _ _ c.run.ensures.small c.args.self.now.reached c.run.result
