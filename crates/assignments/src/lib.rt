@@ -2,8 +2,8 @@
 #![tactic(auto)]
 
 mod assignment;
-mod loads;
 mod pair;
+mod shelf_loads;
 
 pub use assignment::{Assignment, carried};
-pub use loads::spread;
+pub use shelf_loads::spread;

@@ -13,10 +13,10 @@ returns-in-Ok c =
       shelves = shelf_set (vec_items c.args.spots.now) c.in-Ok.i c.args.spot at.place at.inside at.same;
     }
 
-pub returns-in_ok-insert : goal.returns-in_ok-insert
-returns-in_ok-insert c =
+pub returns-in_ok-insert-in-Err : goal.returns-in_ok-insert-in-Err
+returns-in_ok-insert-in-Err c =
     let at = gap_in _ _ _ _ c.as_slice.ensures.value c.in-Err.ensures
-    in let items = c.insert.ensures.items ∙ ap (λ r. cond (is_ok r) (insert (vec_items c.args.spots.now) c.in-Err.i c.args.spot) (vec_items c.args.spots.now)) c.in_ok-insert.was
+    in let items = c.insert.ensures.items ∙ ap (λ r. cond (is_ok r) (insert (vec_items c.args.spots.now) c.in-Err.i c.args.spot) (vec_items c.args.spots.now)) c.in_ok-insert-in-Err.was
     in record {
       ascending = ap ascends items ∙ ascends_inserted (vec_items c.args.spots.now) c.in-Err.i c.args.spot c.requires at.place at.other;
       shelves = λ g. ap (λ xs. shelf_in xs g) items ∙ shelf_inserted (vec_items c.args.spots.now) c.in-Err.i c.args.spot at.place g;

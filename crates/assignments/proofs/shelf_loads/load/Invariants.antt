@@ -2,7 +2,7 @@
 use Rattle.std.proofs.Common.{◌≡◌, ◌+◌, ◌≤◌, [], drop}
 use Rattle.hall.specs.House as house
 use Rattle.assignments.specs.Spots.{store}
-use Rattle.assignments.proofs.loads.load.Given as goal
+use Rattle.assignments.proofs.shelf_loads.load.Given as goal
 
 abbrev pub invariant-loop-spot : goal.invariant-loop-spot
 invariant-loop-spot l =

@@ -5,8 +5,8 @@ use Rattle.std.proofs.lemmas.Bool.Decides.{nat_tests}
 use Rattle.hall.specs.House as house
 use Rattle.assignments.specs.Spots.{store}
 use Rattle.assignments.proofs.Counts.{load_more, load_none}
-use Rattle.assignments.proofs.loads.load.Goals as goal
-use Rattle.assignments.proofs.loads.load.Goals.{then-spot-shelf, else-spot-shelf}
+use Rattle.assignments.proofs.shelf_loads.load.Goals as goal
+use Rattle.assignments.proofs.shelf_loads.load.Goals.{then-spot-shelf, else-spot-shelf}
 
 pub loop-spot-preserved : goal.loop-spot-preserved
 loop-spot-preserved c =

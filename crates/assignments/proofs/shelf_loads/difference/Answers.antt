@@ -6,7 +6,7 @@ use Rattle.hall.specs.House.{any, every, none_of}
 use Rattle.assignments.specs.Spots.{store}
 use Rattle.assignments.specs.Spread.{at_most, reached}
 use Rattle.assignments.proofs.Bounds.{Bounds, bounds_first, bounds_more, bounds_all, bounds_reached}
-use Rattle.assignments.proofs.loads.difference.Goals as goal
+use Rattle.assignments.proofs.shelf_loads.difference.Goals as goal
 
 or_first : (a b : Bool) → a ≡ true → house.or a b ≡ true
 or_first a b e = ap (λ x. house.or x b) e

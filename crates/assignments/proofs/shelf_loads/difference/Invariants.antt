@@ -3,7 +3,7 @@ use Rattle.std.proofs.Common.{[]}
 use Rattle.hall.specs.House as house
 use Rattle.assignments.specs.Spots.{store}
 use Rattle.assignments.proofs.Bounds.{Bounds}
-use Rattle.assignments.proofs.loads.difference.Given as goal
+use Rattle.assignments.proofs.shelf_loads.difference.Given as goal
 
 abbrev pub invariant-loop-shelf : goal.invariant-loop-shelf
 invariant-loop-shelf l = Bounds (house.load (store [] l.spots)) l.shelves l.shelf-index l.least l.greatest
