@@ -1,7 +1,7 @@
 -- What telling a command leaves of a hall that is reached.
 use Rattle.std.proofs.Common.{◌≡◌, ℕ, ◌+◌, ◌<◌, ◌≤◌, List, [], ◌∷◌, ◌++◌, length, get_or, take, Some, Ok, Err, Result, Vec, sym, refl, subst, arith, lit<}
 use mathlib.Core.Logic.{∥∥₁_map, ∥∥₁_elim}
-use base.Stored.{CodedSet, coded_list, coded_ℕ}
+use base.Stored.{Coded-set, coded_list, coded_ℕ}
 use Rattle.std.proofs.lemmas.List.{take_more, take_all}
 use Rattle.std.specs.declared.alloc.Global.{Global}
 use Rattle.hall.specs.House.{each, Store, Command, Move}
@@ -49,7 +49,7 @@ module _ (m m₁ : List ℕ) (c : Command) (ms : List Move) (n : number_of c < 1
 
   -- refused, it is as it was
   pub run_same : (k : ℕ) → 0 < k → runs (acts_of c) own m (said c) [] ≡ ran m₁ ms k → m₁ ≡ m
-  run_same k h run = ∥∥₁_elim some (CodedSet (coded_list coded_ℕ) m₁ m) (λ x. (run_refused m m₁ x.0 c ms k x.1 n run h).1)
+  run_same k h run = ∥∥₁_elim some (Coded-set (coded_list coded_ℕ) m₁ m) (λ x. (run_refused m m₁ x.0 c ms k x.1 n run h).1)
 
   pub run_stays : (k : ℕ) → 0 < k → runs (acts_of c) own m (said c) [] ≡ ran m₁ ms k → (s : Store) → Reached m s → Answered s c (refusing k) × Reached m₁ s
   run_stays k h run s r = let x = run_refused m m₁ s c ms k r n run h in (x.0, subst (λ j. Reached j s) (sym x.1) r)

@@ -86,7 +86,7 @@ pub fn ring_of(heap: Global, shelves: &[u64]) -> Result<Vec<Point>, AllocError> 
             })?;
         }
     }
-    points.sort();
+    points.sort_unstable();
     Ok(points)
 }
 

@@ -12,7 +12,7 @@ unfolding own zeros
 started m e = subst (λ k. Reached k nothing) (sym e) reached_start
 
 pub invariant_of-result : goal.invariant_of-result
-invariant_of-result c = let e = c.in_ok-memory.ensures in (e.len, (∣ (nothing, started _ (e.items-if-clones-equal (λ y q. q))) ∣₁, tt))
+invariant_of-result c = let e = c.in_ok-memory.ensures in record { whole = e.len; reached = ∣ (nothing, started _ (e.items_if_clones_equal (λ y q. q))) ∣₁ }
 
 pub returns : goal.returns
-returns c = started _ (c.in_ok-memory.ensures.items-if-clones-equal (λ y q. q))
+returns c = started _ (c.in_ok-memory.ensures.items_if_clones_equal (λ y q. q))

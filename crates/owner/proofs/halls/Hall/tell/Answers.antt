@@ -6,14 +6,11 @@ use Rattle.owner.proofs.Telling.{refusal_some, run_kept, run_not, run_same, run_
 use Rattle.owner.proofs.halls.Hall.tell.Goals as goal
 
 pub invariant_of-self : goal.invariant_of-self
-invariant_of-self c = (
-  c.args.self.now.whole,
-  (
-    run_kept _ _ _ _ c.run.ensures.small c.args.self.now.reached c.run.result
-        (as_run _ _ _ _ _ _ _ _ _ c.acts_for-acts.ensures c.as_mut_slice.ensures.value (with_items_is c.args.self.now.memory c.run.new.memory (omega arith)) c.run.ensures.ran),
-    tt,
-  ),
-)
+invariant_of-self c = record {
+  whole = c.args.self.now.whole;
+  reached = run_kept _ _ _ _ c.run.ensures.small c.args.self.now.reached c.run.result
+      (as_run _ _ _ _ _ _ _ _ _ c.acts_for-acts.ensures c.as_mut_slice.ensures.value (with_items_is c.args.self.now.memory c.run.new.memory (omega arith)) c.run.ensures.ran);
+}
 
 pub unreachable-requires : goal.unreachable-requires
 unreachable-requires c =
