@@ -8,6 +8,7 @@ mod run;
 use call::{Call, Misuse, call_of};
 use run::{Trouble, run};
 use std::io::BufWriter;
+use std::process::ExitCode;
 use std::{env, fs};
 
 const USAGE: &str = "usage: carry STEPS";
@@ -58,21 +59,30 @@ fn carry(rt: &HostRuntime, file: &str) -> Result<(), Failed> {
         Ok(bytes) => bytes,
         Err(why) => return tell_trouble(rt, file, &Trouble::Unread(why)),
     };
-    let mut out = BufWriter::new(rt.stdout());
+    let Ok(mut out) = BufWriter::new(rt.alloc(), rt.stdout()) else {
+        return tell_trouble(rt, file, &Trouble::NoMemory);
+    };
     match run(rt.alloc(), bytes.as_slice(), &mut out) {
         Ok(()) => Ok(()),
         Err(why) => tell_trouble(rt, file, &why),
     }
 }
 
-fn main(rt: HostRuntime) -> Result<(), Failed> {
-    let args = match env::args(&rt) {
+fn answer(rt: &HostRuntime) -> Result<(), Failed> {
+    let args = match env::args(rt) {
         Ok(args) => args,
-        Err(why) => return tell_misuse(&rt, &Misuse::Unreadable(why)),
+        Err(why) => return tell_misuse(rt, &Misuse::Unreadable(why)),
     };
     match call_of(args) {
-        Ok(Call::Help) => help(&rt),
-        Ok(Call::Carry(file)) => carry(&rt, file.as_str()),
-        Err(misuse) => tell_misuse(&rt, &misuse),
+        Ok(Call::Help) => help(rt),
+        Ok(Call::Carry(file)) => carry(rt, file.as_str()),
+        Err(misuse) => tell_misuse(rt, &misuse),
+    }
+}
+
+fn main(rt: HostRuntime) -> ExitCode {
+    match answer(&rt) {
+        Ok(()) => ExitCode::SUCCESS,
+        Err(Failed) => ExitCode::FAILURE,
     }
 }

@@ -11,6 +11,7 @@ mod trouble;
 
 use contest::contests;
 use picture::picture;
+use std::process::ExitCode;
 use std::rt::Env;
 use std::{env, fs};
 use table::table;
@@ -34,12 +35,12 @@ enum Call {
     Compare { steps: String, svg: Option<String> },
 }
 
-fn main(rt: HostRuntime) -> Result<(), Trouble> {
+fn main(rt: HostRuntime) -> ExitCode {
     match run(&rt) {
-        Ok(()) => Ok(()),
+        Ok(()) => ExitCode::SUCCESS,
         Err(trouble) => {
-            eprintln!(rt; "compare: {trouble}")?;
-            Err(trouble)
+            let _ = eprintln!(rt; "compare: {trouble}");
+            ExitCode::FAILURE
         }
     }
 }

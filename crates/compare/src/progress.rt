@@ -1,8 +1,6 @@
 // A progress line on standard error, where that is a terminal, once a pass takes longer than a second.
+use std::io::IsTerminal;
 use std::time::Instant;
-
-// The file descriptor of standard error.
-const STDERR: i32 = 2;
 
 // How many steps pass between two looks at the clock.
 const STRIDE: usize = 256;
@@ -16,7 +14,7 @@ pub struct Progress {
 
 impl Progress {
     pub fn new(rt: &HostRuntime) -> Progress {
-        let start = if libc::isatty(STDERR) == 1 {
+        let start = if rt.stderr().is_terminal() {
             Instant::now(rt).ok()
         } else {
             None

@@ -6,6 +6,7 @@ mod weeks;
 
 use placing::Command;
 use std::alloc::{AllocError, Global};
+use std::process::ExitCode;
 use std::rt::Env;
 use std::{env, fs};
 use steps::encode;
@@ -18,12 +19,12 @@ Writes to FILE a year of steps for compare: SHELVES shelves come, then GOODS goo
 random numbers; then in each of WEEKS weeks a few goods come and go, and a shelf comes or
 goes by chance, so that their number stays around SHELVES. The same SEED gives the same file.";
 
-fn main(rt: HostRuntime) -> Result<(), Trouble> {
+fn main(rt: HostRuntime) -> ExitCode {
     match run(&rt) {
-        Ok(()) => Ok(()),
+        Ok(()) => ExitCode::SUCCESS,
         Err(trouble) => {
-            eprintln!(rt; "year: {trouble}")?;
-            Err(trouble)
+            let _ = eprintln!(rt; "year: {trouble}");
+            ExitCode::FAILURE
         }
     }
 }
