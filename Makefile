@@ -2,8 +2,7 @@
 .PHONY: run test
 
 run:
-	rt check carry
-	target/bin/carry crates/carry/data/spring.steps
+	cd crates/carry && rt run -- data/spring.steps
 
 test:
 	.ci/run

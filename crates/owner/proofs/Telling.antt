@@ -12,7 +12,7 @@ use Rattle.placing_model.specs.Reached.{Reached, refusing, Answered, hall_then, 
 use Rattle.placing_model.proofs.Reaching.{run_done, run_refused, run_ends, carried_more, carried_none}
 use Rattle.placing.specs.Acts.{refusal_number, command_of}
 use Rattle.owner.specs.Runs.{ending_number}
-use Rattle.owner.specs.Halls.{answer_of, answer_as, answers_of, outcome_from, commands_of, AllTold, Goes_on}
+use Rattle.owner.specs.Halls.{answer_of, answer_as, answers_of, outcome_from, commands_of, AllTold, GoesOn}
 use Rattle.placing.specs.declared.acts.Refusal.{Refusal}
 use Rattle.placing.specs.declared.acts.Refusal.TheVariants.{Busy, NotThere, AlreadyThere, NoShelf, LastShelf, Full}
 use Rattle.placing.specs.declared.acts.Command as told
@@ -67,7 +67,7 @@ outcome_answer (Err NoMemory) o e = absurd (let z : ◌≡◌ {A = ℕ} 0 1 = cc
 
 pub goes_on : (m m₁ : List ℕ) (os os₁ : List Outcome) (c : Command) (told : Result (Vec Spot Global) Failure) (o : Outcome) →
     ((s : Store) → Reached m s → Answered s c (answer_of told) × Reached m₁ (hall_then s c (answer_of told))) → Some o ≡ outcome_from told → os₁ ≡ os ++ o ∷ [] →
-    Goes_on m os c m₁ os₁
+    GoesOn m os c m₁ os₁
 goes_on m m₁ os os₁ c told o right e q cs h =
     let x = right h.0 h.2 in
     let a = outcome_answer told o e in

@@ -43,5 +43,5 @@ abbrev pub AllTold : List house.Command → List ℕ → List Outcome → Type 0
 AllTold cs m os = (s : Store) × CarriedOut nothing cs (answers_of os) s × Reached m s
 
 -- one command more
-abbrev pub Goes_on : List ℕ → List Outcome → house.Command → List ℕ → List Outcome → Type 0
-Goes_on m os c m₁ os₁ = (cs : List house.Command) → AllTold cs m os → AllTold (cs ++ c ∷ []) m₁ os₁
+abbrev pub GoesOn : List ℕ → List Outcome → house.Command → List ℕ → List Outcome → Type 0
+GoesOn m os c m₁ os₁ = (cs : List house.Command) → AllTold cs m os → AllTold (cs ++ c ∷ []) m₁ os₁

@@ -4,7 +4,7 @@ ghost use Rattle.hall.specs.House.{Store};
 ghost use Rattle.machine.specs.Acts.{nothing};
 ghost use Rattle.placing_model.specs.Reached.{Reached, Answered, hall_then, acts_of};
 ghost use Rattle.placing.specs.Acts.{command_of};
-ghost use Rattle.owner.specs.Halls.{words_of, answer_of, outcome_from, commands_of, AllTold, Goes_on};
+ghost use Rattle.owner.specs.Halls.{words_of, answer_of, outcome_from, commands_of, AllTold, GoesOn};
 
 use crate::halls::Hall;
 use crate::runs::{Ending, run};
@@ -82,7 +82,7 @@ fn tell_next(
     command: Command,
     outcomes: &mut Vec<Outcome>,
 ) -> Result<(), AllocError>
-    ensures { is_ok result ≡ true → Goes_on (words_of hall.old) outcomes.old.items (command_of command) (words_of hall.new) outcomes.new.items }
+    ensures { is_ok result ≡ true → GoesOn (words_of hall.old) outcomes.old.items (command_of command) (words_of hall.new) outcomes.new.items }
 {
     let Some(outcome) = outcome_of(hall.tell(heap, command)) else {
         return Err(AllocError);
