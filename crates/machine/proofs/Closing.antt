@@ -3,7 +3,7 @@ use Rattle.std.proofs.Common.{◌≡◌, ℕ, zero, suc, ◌<◌, ◌≤◌, Boo
 use Rattle.std.proofs.lemmas.Bool.Decides.{nat_tests as tells}
 use Rattle.std.proofs.lemmas.Bool.{eqb-false, ne_eqb}
 use Rattle.hall.specs.House.{pick, has, none_of, distinct, Spot, Store, goods, put_spot, put_all, left_spots, shelves_after, shelf_goes, Move, refusal, asks}
-use Rattle.hall.specs.Greedy.{on, at, goods_of, Emptying}
+use Rattle.hall.specs.Greedy.{on, goods_of, Emptying}
 use Rattle.hall.specs.Promise.{Event, said, next, refused}
 use Rattle.words.proofs.Cases.{by_order}
 use Rattle.hall.proofs.Loads.{Fine, has_length}

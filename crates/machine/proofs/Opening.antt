@@ -2,7 +2,7 @@
 use Rattle.std.proofs.Common.{◌≡◌, ℕ, zero, suc, ◌+◌, ◌*◌, ◌/◌, ◌<◌, ◌≤◌, true, false, eqb, leb, List, [], ◌∷◌, ◌++◌, length, refl, ap, ◌∙◌, inl, inr, le-div_iff_mul-le, arith}
 use Rattle.std.proofs.lemmas.Bool.Decides.{nat_tests as tells}
 use Rattle.std.proofs.lemmas.Bool.{ne_eqb, leb-false, le-leb}
-use Rattle.hall.specs.House.{pick, has, Spot, Store, goods, level, put_spot, put_all, left_spots, shelves_after, shelf_comes, Move, refusal, asks, divided}
+use Rattle.hall.specs.House.{pick, has, Spot, Store, level, put_spot, put_all, left_spots, shelves_after, shelf_comes, Move, refusal, asks, divided}
 use Rattle.hall.specs.Greedy.{on, at, Filling}
 use Rattle.hall.specs.Promise.{Event, said, next, refused}
 use Rattle.words.proofs.Cases.{by_test, by_order}

@@ -3,7 +3,6 @@ use Rattle.std.proofs.Common.{◌≡◌, ℕ, ◌+◌, ◌<◌, ◌≤◌, true,
 use Rattle.std.proofs.lemmas.Bool.Decides.{nat_tests}
 use Rattle.std.proofs.lemmas.Bool.{eqb-false}
 use Rattle.hall.specs.House.{has, those}
-use Rattle.hall.specs.Greedy.{at}
 use Rattle.words.proofs.Cases.{by_same}
 use Rattle.hall.proofs.Lists.{bit}
 use Rattle.hall.proofs.Sets.{has_append, has_one, has_those}

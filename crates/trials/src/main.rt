@@ -17,6 +17,7 @@ use long::long_run;
 use placing::Command;
 use small::{Found, find};
 use std::alloc::AllocError;
+use std::process::ExitCode;
 use std::{fmt, io};
 
 // What went wrong is told; the process ends with status 1.
@@ -129,15 +130,22 @@ fn spoiled_memories(rt: &HostRuntime) -> Result<(), Failed> {
     Ok(())
 }
 
-fn main(rt: HostRuntime) -> Result<(), Failed> {
-    small_halls(&rt)?;
-    planted(&rt)?;
-    long_halls(&rt, Numbers::InARow, 1)?;
-    long_halls(&rt, Numbers::Random, 2)?;
-    long_halls(&rt, Numbers::SameLowBits, 3)?;
-    long_halls(&rt, Numbers::Highest, 4)?;
-    garbage_memories(&rt, 5)?;
-    garbage_memories(&rt, 40000)?;
-    garbage_memories(&rt, u64::MAX)?;
-    spoiled_memories(&rt)
+fn all_trials(rt: &HostRuntime) -> Result<(), Failed> {
+    small_halls(rt)?;
+    planted(rt)?;
+    long_halls(rt, Numbers::InARow, 1)?;
+    long_halls(rt, Numbers::Random, 2)?;
+    long_halls(rt, Numbers::SameLowBits, 3)?;
+    long_halls(rt, Numbers::Highest, 4)?;
+    garbage_memories(rt, 5)?;
+    garbage_memories(rt, 40000)?;
+    garbage_memories(rt, u64::MAX)?;
+    spoiled_memories(rt)
+}
+
+fn main(rt: HostRuntime) -> ExitCode {
+    match all_trials(&rt) {
+        Ok(()) => ExitCode::SUCCESS,
+        Err(Failed) => ExitCode::FAILURE,
+    }
 }
