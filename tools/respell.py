@@ -3,8 +3,8 @@
 
 usage: python3 tools/respell.py        at the top of the checkout, once, after the kit's port.py
 
-Names of src/, strings, comments' words without a dash, names that the kit's library declares, and names that Rattle
-makes for goals and steps keep their spelling. Prints the table of names; with --check it writes nothing.
+Functions of src/, strings, comments but for names in backquotes, names that the kit's library declares, and names that
+Rattle makes for goals and steps keep their spelling. Prints the table of names; with --check it writes nothing.
 """
 
 import glob

@@ -1,6 +1,6 @@
 -- A shelf that goes has each of its goods put on another.
 use Rattle.std.proofs.Common.{◌≡◌, ℕ, true, false, not, eqb, ◌⊎◌, List, [], ◌∷◌, length, sym, refl, ap, ◌∙◌, inl, inr, arith}
-use Rattle.std.proofs.lemmas.Bool.Decides.{nat_tests as tells}
+use Rattle.std.proofs.lemmas.Bool.Decides.{nat_tests}
 use Rattle.std.proofs.lemmas.Bool.{eqb-true}
 use Rattle.words.proofs.Cases.{by_test}
 use Rattle.hall.specs.House.{every, any, those, each, has, distinct, Spot, Store, goods, load, moved, level, shelf_goes, may_be, goods_after, shelves_after, Move, put_spot, put_all}
@@ -23,7 +23,7 @@ pub record Emptied (s : Store) (k : ℕ) (ps : List Spot) : Type 0 where
 
 module _ (s : Store) (k : ℕ) (F : Fine s) where
   pub rest_out : has (rest_of s k) k ≡ false
-  rest_out = has_those (λ j. not (eqb j k)) s.shelves k ∙ grind (arith, tells)
+  rest_out = has_those (λ j. not (eqb j k)) s.shelves k ∙ grind (arith, nat_tests)
 
   rest_in : (j : ℕ) → has (rest_of s k) j ≡ true → has s.shelves j ≡ true
   rest_in j h = grind (arith, has_those (λ j. not (eqb j k)) s.shelves j)
@@ -66,14 +66,14 @@ module _ (s : Store) (k : ℕ) (F : Fine s) where
       let a = emptied_off ps f z g i in
       let b = at_placed s g F i in
       let c = has_those (λ j. not (eqb j k)) s.shelves (at ps g) in
-      elim (f.stay g i) [ inl e ↦ grind (arith, tells) | inr e ↦ e.1 ]
+      elim (f.stay g i) [ inl e ↦ grind (arith, nat_tests) | inr e ↦ e.1 ]
 
   pub emptied_moved : (ps : List Spot) → Emptied s k ps → on ps k ≡ 0 → length (moved s (record { shelves = rest_of s k; spots = ps })) ≡ load s k
   emptied_moved ps f z =
       moved_same s (record { shelves = rest_of s k; spots = ps }) f.same_goods
       ∙ count_same_on _ _ (goods s) (all_from_has _ (goods s) (λ g i.
       let c = emptied_off ps f z g i in
-      elim (f.stay g i) [ inl e ↦ grind (arith, tells) | inr e ↦ let d = e.0 in grind (arith, tells) ]))
+      elim (f.stay g i) [ inl e ↦ grind (arith, nat_tests) | inr e ↦ let d = e.0 in grind (arith, nat_tests) ]))
       ∙ sym (load_count s k F.goods_once)
 
   pub emptied_may : (ps : List Spot) → Emptied s k ps → on ps k ≡ 0 →
@@ -94,8 +94,8 @@ module _ (s : Store) (k : ℕ) (F : Fine s) where
   emptying_on (m ∷ ms) ps r g h =
       let a = r.1 in
       let b = put_at ps m.good m.to g in
-      by_test (eqb g m.good) (λ e. grind (arith, tells))
-      (λ e. let ih : at (put_spot ps m.good m.to) g ≡ k = emptying_on ms (put_spot ps m.good m.to) r.3 g (grind arith) in grind (arith, tells))
+      by_test (eqb g m.good) (λ e. grind (arith, nat_tests))
+      (λ e. let ih : at (put_spot ps m.good m.to) g ≡ k = emptying_on ms (put_spot ps m.good m.to) r.3 g (grind arith) in grind (arith, nat_tests))
 
   pub emptying_once : (ms : List Move) (ps : List Spot) → Emptying (rest_of s k) k ps ms → once ms ≡ true
   unfolding each any distinct
@@ -107,7 +107,7 @@ module _ (s : Store) (k : ℕ) (F : Fine s) where
       emptying_on ms (put_spot ps m.good m.to) r.3 m.good in
       let d = r.2.0 in
       let c = rest_out in
-      grind (arith, tells)
+      grind (arith, nat_tests)
 
   pub emptying_changes : (ms : List Move) (ps : List Spot) → Emptied s k ps → Emptying (rest_of s k) k ps ms → every (changes s.spots) ms ≡ true
   unfolding every
@@ -119,4 +119,4 @@ module _ (s : Store) (k : ℕ) (F : Fine s) where
       let b : at s.spots m.good ≡ k = elim (f.stay m.good h) [ inl x ↦ sym x ∙ r.1 | inr x ↦ x.0 ] in
       let d = r.2.0 in
       let c = rest_out in
-      grind (arith, tells)
+      grind (arith, nat_tests)

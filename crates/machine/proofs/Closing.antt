@@ -1,6 +1,6 @@
 -- A shelf goes: refused as it should be, or each of its goods goes to an emptiest.
 use Rattle.std.proofs.Common.{◌≡◌, ℕ, zero, suc, ◌<◌, ◌≤◌, Bool, true, false, not, ◌&&◌, eqb, ◌⊎◌, List, [], ◌∷◌, length, refl, ap, ◌∙◌, inl, inr, arith}
-use Rattle.std.proofs.lemmas.Bool.Decides.{nat_tests as tells}
+use Rattle.std.proofs.lemmas.Bool.Decides.{nat_tests}
 use Rattle.std.proofs.lemmas.Bool.{eqb-false, ne_eqb}
 use Rattle.hall.specs.House.{pick, has, none_of, distinct, Spot, Store, goods, put_spot, put_all, left_spots, shelves_after, shelf_goes, Move, refusal, asks}
 use Rattle.hall.specs.Greedy.{on, goods_of, Emptying}
@@ -69,7 +69,7 @@ module _ (P : Parts) (Q : Laws P) where
         let p = put_on ps v.good v.to k v.in_hall in
         let a = v.on_it in
         let n : eqb v.to k ≡ false = ne_eqb _ _ (rest_parts s.shelves k v.to v.to_one).1 in
-        grind (arith, tells)
+        grind (arith, nat_tests)
 
     clears_more : (ps : List Spot) (m M : State P) (ev : Event) → turn_of P M ev ≡ empties P m (P.shelves.find m.shelves k) →
         (v : Sent P Q m k s.shelves (rest_of s k) ps) → Clears s k (put_spot ps v.good v.to) v.state next → Clears s k ps M ev

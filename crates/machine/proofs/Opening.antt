@@ -1,6 +1,6 @@
 -- A shelf comes: refused as it should be, or it gets its share, each time from a fullest.
 use Rattle.std.proofs.Common.{◌≡◌, ℕ, zero, suc, ◌+◌, ◌*◌, ◌/◌, ◌<◌, ◌≤◌, true, false, eqb, leb, List, [], ◌∷◌, ◌++◌, length, refl, ap, ◌∙◌, inl, inr, le-div_iff_mul-le, arith}
-use Rattle.std.proofs.lemmas.Bool.Decides.{nat_tests as tells}
+use Rattle.std.proofs.lemmas.Bool.Decides.{nat_tests}
 use Rattle.std.proofs.lemmas.Bool.{ne_eqb, leb-false, le-leb}
 use Rattle.hall.specs.House.{pick, has, Spot, Store, level, put_spot, put_all, left_spots, shelves_after, shelf_comes, Move, refusal, asks, divided}
 use Rattle.hall.specs.Greedy.{on, at, Filling}
@@ -76,7 +76,7 @@ module _ (P : Parts) (Q : Laws P) where
     given_gain ps m v =
         let p = put_on ps v.good k k v.in_hall in
         let n : eqb (at ps v.good) k ≡ false = ne_eqb _ _ (λ e. let x : on ps (at ps v.good) ≡ on ps k = ap (on ps) e in let y = v.two in omega arith) in
-        grind (arith, tells)
+        grind (arith, nat_tests)
 
     fills_more : (ps : List Spot) (m M : State P) (ev : Event) → Filled s k ps → turn_of P M ev ≡ evens P m 2 (P.shelves.find m.shelves k) →
         (v : Given P Q m 2 k (s.shelves ++ k ∷ []) ps) → Fills s k q (put_spot ps v.good k) v.state next → Fills s k q ps M ev
@@ -140,7 +140,7 @@ module _ (P : Parts) (Q : Laws P) where
         turn_of P m (said (shelf_comes k)) ≡ evens P opened 2 (P.shelves.find (P.shelves.insert m.shelves k) k) → Served P Q m s (shelf_comes k)
     open_served out small few t =
         let z = none_on s k F out in
-        let e : divided (length s.spots) (suc (length s.shelves)) ≡ length s.spots / suc (length s.shelves) = grind (arith, tells) in
+        let e : divided (length s.spots) (suc (length s.shelves)) ≡ length s.spots / suc (length s.shelves) = grind (arith, nat_tests) in
         open_from out (fills s k F out (divided (length s.spots) (suc (length s.shelves))) e (divided (length s.spots) (suc (length s.shelves))) s.spots opened m (said (shelf_comes k))
         (filled_start s k F out lv) (omega arith) (omega arith) (opened_shows out small (let x = leb-false _ _ few in omega arith)) t)
 

@@ -21,15 +21,15 @@ use Rattle.machine.specs.Keeping.{IndexKeeps, LoadsKeep, ContentsKeep, Keep}
 use Rattle.placing_model.specs.Parts.{zeros, index_of, loads_of, contents_of, parts}
 use Rattle.placing_model.proofs.Memory.{Sizes, Words, length_zeros}
 
-getD_zeros : (n p : ℕ) → get_or (zeros n) p 0 ≡ 0
+get_or_zeros : (n p : ℕ) → get_or (zeros n) p 0 ≡ 0
 unfolding zeros
-getD_zeros zero p = refl
-getD_zeros (suc n) zero = refl
-getD_zeros (suc n) (suc p) = getD_zeros n p
+get_or_zeros zero p = refl
+get_or_zeros (suc n) zero = refl
+get_or_zeros (suc n) (suc p) = get_or_zeros n p
 
 small_zeros : (n : ℕ) → Small (zeros n)
 unfolding Small
-small_zeros n k = rw (getD_zeros n k) (lit< tt)
+small_zeros n k = rw (get_or_zeros n k) (lit< tt)
 
 -- an index whose region has room for so many rows
 module _ (bits size room : ℕ) (fits : (size - (heads bits + 6)) / 3 ≡ room) where
@@ -48,9 +48,9 @@ module _ (bits size room : ℕ) (fits : (size - (heads bits + 6)) / 3 ≡ room) 
     Sound = Held;
     bounded = λ m n h. subst (λ r. find_at bits m n ≤ r) (room_is m h.1) (bound_law bits m n).found;
     named = λ m n h p. (found_law bits m n h.0 p).number;
-    empty_sound = ((empty_law bits (zeros size) (getD_zeros size)).sound, length_zeros size);
-    empty_find = (empty_law bits (zeros size) (getD_zeros size)).bare;
-    empty_count = (empty_law bits (zeros size) (getD_zeros size)).none;
+    empty_sound = ((empty_law bits (zeros size) (get_or_zeros size)).sound, length_zeros size);
+    empty_find = (empty_law bits (zeros size) (get_or_zeros size)).bare;
+    empty_count = (empty_law bits (zeros size) (get_or_zeros size)).none;
     insert_sound = λ m n h small none few. ((insert_is m n h small none few).sound, (bound_law bits m n).insert ∙ h.1);
     insert_takes = λ m n h small none few. let i = insert_is m n h small none few in (i.some, i.found);
     insert_full = λ m n h full. (refuse_law bits m n).full (rw (room_is m h.1) full);
