@@ -11,6 +11,7 @@ ghost use Rattle.contents_model.specs.Laws.{Fits, Placed, Exactly};
 ghost use Rattle.contents.specs.View.{ahead, shown, Steps};
 ghost use Rattle.std.specs.Iterator.{at_most};
 
+use std::convert::AsSlice;
 use words::{as_slot, read, write};
 
 const HEADS: u64 = 1025;
@@ -238,47 +239,49 @@ pub fn count_in(memory: &[u64], shelf: u64) -> u64
 }
 
 #[derive(Drop)]
-pub struct Contents<'a> {
-    pub memory: &'a mut [u64],
+pub struct Contents<M> {
+    pub memory: M,
 }
 
-impl Contents<'_> {
+impl<M: AsSlice<u64>> Contents<M> {
     // The shelf that a good is on.
     pub fn shelf_of(&self, good: u64) -> Option<u64>
-        ensures { result ≡ some_slot (shelf_at self.now.memory.now good) }
+        ensures { result ≡ some_slot (shelf_at (M.items self.now.memory) good) }
     {
-        shelf_of_in(self.memory, good)
+        shelf_of_in(self.memory.as_slice(), good)
     }
 
     // The good that stands first on a shelf.
     pub fn first(&self, shelf: u64) -> Option<u64>
-        ensures { result ≡ some_slot (first_at self.now.memory.now shelf) }
+        ensures { result ≡ some_slot (first_at (M.items self.now.memory) shelf) }
     {
-        first_in(self.memory, shelf)
+        first_in(self.memory.as_slice(), shelf)
     }
 
     // The good that stands after this one on its shelf.
     pub fn next(&self, good: u64) -> Option<u64>
-        ensures { result ≡ some_slot (next_at self.now.memory.now good) }
+        ensures { result ≡ some_slot (next_at (M.items self.now.memory) good) }
     {
-        next_in(self.memory, good)
+        next_in(self.memory.as_slice(), good)
     }
 
     // The goods of a shelf, from the first on.
     pub fn walk(&self, shelf: u64) -> Walk<'_>
-        ensures is { shown result ≡ walk self.now.memory.now shelf }
-        ensures exactly { Sound self.now.memory.now → 0 < shelf → Exactly self.now.memory.now shelf (shown result) }
+        ensures is { shown result ≡ walk (M.items self.now.memory) shelf }
+        ensures exactly { Sound (M.items self.now.memory) → 0 < shelf → Exactly (M.items self.now.memory) shelf (shown result) }
     {
-        walk_in(self.memory, shelf)
+        walk_in(self.memory.as_slice(), shelf)
     }
 
     // How many goods are on a shelf.
     pub fn count(&self, shelf: u64) -> u64
-        ensures { result ≡ length (walk self.now.memory.now shelf) }
+        ensures { result ≡ length (walk (M.items self.now.memory) shelf) }
     {
-        count_in(self.memory, shelf)
+        count_in(self.memory.as_slice(), shelf)
     }
+}
 
+impl Contents<&mut [u64]> {
     // Puts a good that is on no shelf in front of the others of a shelf; where there is no such good
     // or shelf, or the good is on a shelf, nothing is changed.
     pub fn add(&mut self, shelf: u64, good: u64)

@@ -11,6 +11,7 @@ ghost use Rattle.index_model.specs.Laws.{InsertTells, RemoveTells};
 ghost use Rattle.index_model.specs.Sound.{SoundIn};
 ghost use Rattle.index_model.specs.Model.{bit, capacity, child, count_at, cut_at, find_at, free_at, fresh_at, give_slot, hang, heads, insert_in, insert_row, insert_slot, key, leaf, left, levels, locate_in, lower, name_slot, next_slot, number_at, put, remove_in, remove_row, replace, rests, slot_at, slot_for, slot_of, slot_to, span, take_slot, width, word};
 
+use std::convert::AsSlice;
 use words::{as_slot, read, write};
 
 const FRESH: u64 = 0;
@@ -414,39 +415,41 @@ pub fn remove_in<const BITS: u64>(memory: &mut [u64], number: u64) -> Option<u64
 }
 
 #[derive(Drop)]
-pub struct Index<'a, const BITS: u64> {
-    pub memory: &'a mut [u64],
+pub struct Index<M, const BITS: u64> {
+    pub memory: M,
 }
 
-impl<'a, const BITS: u64> Index<'a, BITS> {
+impl<M: AsSlice<u64>, const BITS: u64> Index<M, BITS> {
     // How many numbers fit.
     pub fn capacity(&self) -> u64
-        ensures { result ≡ capacity BITS self.now.memory.now }
+        ensures { result ≡ capacity BITS (M.items self.now.memory) }
     {
-        capacity_in::<BITS>(self.memory)
+        capacity_in::<BITS>(self.memory.as_slice())
     }
 
     // How many numbers there are.
     pub fn count(&self) -> u64
-        ensures { result ≡ count_at self.now.memory.now }
+        ensures { result ≡ count_at (M.items self.now.memory) }
     {
-        count_in(self.memory)
+        count_in(self.memory.as_slice())
     }
 
     // The number of a slot, or 0 where it is none.
     pub fn number_of(&self, slot: u64) -> u64
-        ensures { result ≡ number_at BITS self.now.memory.now slot }
+        ensures { result ≡ number_at BITS (M.items self.now.memory) slot }
     {
-        number_of_in::<BITS>(self.memory, slot)
+        number_of_in::<BITS>(self.memory.as_slice(), slot)
     }
 
     // The slot of the number.
     pub fn find(&self, number: u64) -> Option<u64>
-        ensures { result ≡ some_slot (find_at BITS self.now.memory.now number) }
+        ensures { result ≡ some_slot (find_at BITS (M.items self.now.memory) number) }
     {
-        find_in::<BITS>(self.memory, number)
+        find_in::<BITS>(self.memory.as_slice(), number)
     }
+}
 
+impl<const BITS: u64> Index<&mut [u64], BITS> {
     // Takes a new number in, at the slot that is told; nothing changes where it is there or there is no room.
     pub fn insert(&mut self, number: u64) -> Option<u64>
         ensures same { self.new.memory.ghost_name ≡ self.old.memory.ghost_name }

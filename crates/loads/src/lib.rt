@@ -10,6 +10,7 @@ ghost use Rattle.loads_model.specs.Model.{a_slot, load_at, emptier, fuller, tree
 ghost use Rattle.loads.specs.Entry.{emptiest_of, smaller};
 ghost use Rattle.loads.specs.Trees.{base_of, order_of, root_of};
 
+use std::convert::AsSlice;
 use words::{as_slot, read, write};
 
 const SLOTS: u64 = 1024;
@@ -211,32 +212,34 @@ pub fn take_one_in(memory: &mut [u64], slot: u64)
 }
 
 #[derive(Drop)]
-pub struct Loads<'a> {
-    pub memory: &'a mut [u64],
+pub struct Loads<M> {
+    pub memory: M,
 }
 
-impl Loads<'_> {
+impl<M: AsSlice<u64>> Loads<M> {
     // A shelf that is there and has the least load.
     pub fn emptiest(&self) -> Option<u64>
-        ensures { result ≡ some_slot (emptiest_at self.now.memory.now) }
+        ensures { result ≡ some_slot (emptiest_at (M.items self.now.memory)) }
     {
-        emptiest_in(self.memory)
+        emptiest_in(self.memory.as_slice())
     }
 
     // A shelf that is there and has the greatest load.
     pub fn fullest(&self) -> Option<u64>
-        ensures { result ≡ some_slot (fullest_at self.now.memory.now) }
+        ensures { result ≡ some_slot (fullest_at (M.items self.now.memory)) }
     {
-        fullest_in(self.memory)
+        fullest_in(self.memory.as_slice())
     }
 
     // The load of a shelf, 0 where it is no slot.
     pub fn load_of(&self, slot: u64) -> u64
-        ensures { result ≡ load_at self.now.memory.now slot }
+        ensures { result ≡ load_at (M.items self.now.memory) slot }
     {
-        load_of_in(self.memory, slot)
+        load_of_in(self.memory.as_slice(), slot)
     }
+}
 
+impl Loads<&mut [u64]> {
     // The shelf is there, with load 0; at what is no slot nothing is changed.
     pub fn enter(&mut self, slot: u64)
         ensures same { self.new.memory.ghost_name ≡ self.old.memory.ghost_name }
