@@ -4,78 +4,67 @@
 ghost use Rattle.index_model.specs.Laws.{KeyLaw, EmptyLaw, FoundLaw, ApartLaw, CountLaw, InsertLaw, RemoveLaw, RefuseLaw, RoomLaw, BoundLaw, NarrowLaw};
 
 // A number of 64 bits has a key of its own.
-pub fn key_law_stands() -> u8
+pub fn key_law_stands()
     ensures { KeyLaw }
 {
-    0
 }
 
 // Zeros are an empty index.
-pub fn empty_law_stands() -> u8
+pub fn empty_law_stands()
     ensures { EmptyLaw }
 {
-    0
 }
 
 // What is found has the number.
-pub fn found_law_stands() -> u8
+pub fn found_law_stands()
     ensures { FoundLaw }
 {
-    0
 }
 
 // Two numbers are never at one slot.
-pub fn apart_law_stands() -> u8
+pub fn apart_law_stands()
     ensures { ApartLaw }
 {
-    0
 }
 
 // The count is how many numbers there are.
-pub fn count_law_stands() -> u8
+pub fn count_law_stands()
     ensures { CountLaw }
 {
-    0
 }
 
 // A new number comes in as long as there is room, and all others stay.
-pub fn insert_law_stands() -> u8
+pub fn insert_law_stands()
     ensures { InsertLaw }
 {
-    0
 }
 
 // A number that is there goes, and all others stay.
-pub fn remove_law_stands() -> u8
+pub fn remove_law_stands()
     ensures { RemoveLaw }
 {
-    0
 }
 
 // What is refused changes nothing.
-pub fn refuse_law_stands() -> u8
+pub fn refuse_law_stands()
     ensures { RefuseLaw }
 {
-    0
 }
 
 // So many words hold so many rows.
-pub fn room_law_stands() -> u8
+pub fn room_law_stands()
     ensures { RoomLaw }
 {
-    0
 }
 
 // Slots are within the capacity, and the memory stays as long as it was.
-pub fn bound_law_stands() -> u8
+pub fn bound_law_stands()
     ensures { BoundLaw }
 {
-    0
 }
 
 // Words of 64 bits stay words of 64 bits.
-pub fn narrow_law_stands() -> u8
+pub fn narrow_law_stands()
     ensures { NarrowLaw }
 {
-    0
 }
