@@ -7,8 +7,7 @@ ghost use Rattle.contents_model.specs.Laws.{EmptyLaw, RowsLaw, AddLaw, AddKeeps,
 pub fn start_stands()
     ensures empty { EmptyLaw }
     ensures rows { RowsLaw }
-{
-}
+{}
 
 // Adding and removing.
 pub fn changes_stand()
@@ -17,8 +16,7 @@ pub fn changes_stand()
     ensures remove { RemoveLaw }
     ensures still { StillLaw }
     ensures kept { KeptLaw }
-{
-}
+{}
 
 // The first good of a shelf, the next of a good, and the walk over all of them.
 pub fn reads_stand()
@@ -27,5 +25,4 @@ pub fn reads_stand()
     ensures walk { WalkLaw }
     ensures chain { ChainLaw }
     ensures bounds { BoundsLaw }
-{
-}
+{}
