@@ -12,7 +12,7 @@ pub struct Spot {
 }
 
 // Why something is refused.
-#[derive(Clone, Copy, PartialEq, Eq, Debug)]
+#[derive(Clone, Copy, PartialEq, Eq, PartialOrd, Ord, Debug)]
 pub enum Refusal {
     // A command is told while another is under way.
     Busy,

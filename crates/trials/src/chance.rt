@@ -1,26 +1,30 @@
 // Numbers by chance, the same for the same seed, and the kinds of numbers that goods and shelves have.
+use rand_core::{Rng, SeedableRng};
+use rand_xoshiro::SplitMix64;
 use std::fmt;
 
-#[derive(Clone, Copy)]
+#[derive(Drop)]
 pub struct Chance {
-    state: u64,
+    words: SplitMix64,
 }
+
+// The generator adds this to its state before it mixes it.
+const STEP: u64 = 0x9e37_79b9_7f4a_7c15;
 
 // A bijection of 64 bits that leaves no pattern.
 fn mix(number: u64) -> u64 {
-    let a = (number ^ (number >> 30)).wrapping_mul(0xbf58_476d_1ce4_e5b9);
-    let b = (a ^ (a >> 27)).wrapping_mul(0x94d0_49bb_1331_11eb);
-    b ^ (b >> 31)
+    SplitMix64::seed_from_u64(number.wrapping_sub(STEP)).next_u64()
 }
 
 impl Chance {
     pub fn new(seed: u64) -> Chance {
-        Chance { state: mix(seed) }
+        Chance {
+            words: SplitMix64::seed_from_u64(mix(seed)),
+        }
     }
 
     pub fn any(&mut self) -> u64 {
-        self.state = self.state.wrapping_add(0x9e37_79b9_7f4a_7c15);
-        mix(self.state)
+        self.words.next_u64()
     }
 
     // A number below the limit, or 0 where the limit is 0.
@@ -51,11 +55,11 @@ impl Numbers {
 
 impl fmt::Display for Numbers {
     fn fmt<W: fmt::Write>(&self, f: &mut fmt::Formatter<W>) -> fmt::Result {
-        match self {
-            Numbers::InARow => write!(f, "in a row from 0"),
-            Numbers::Random => write!(f, "by chance"),
-            Numbers::SameLowBits => write!(f, "with the same low 49 bits"),
-            Numbers::Highest => write!(f, "in a row down from 2^64 - 1"),
-        }
+        f.write_str(match self {
+            Numbers::InARow => "in a row from 0",
+            Numbers::Random => "by chance",
+            Numbers::SameLowBits => "with the same low 49 bits",
+            Numbers::Highest => "in a row down from 2^64 - 1",
+        })
     }
 }

@@ -5,7 +5,7 @@ use std::alloc::{AllocError, Global};
 use std::fmt;
 
 // How often each was told.
-#[derive(Clone, Copy)]
+#[derive(Clone, Copy, Default)]
 pub struct Answers {
     pub puts: u64,
     pub done: u64,
@@ -19,20 +19,13 @@ fn fill(memory: &mut [u64], chance: &mut Chance, limit: u64) {
 }
 
 impl Answers {
-    fn new() -> Answers {
-        Answers {
-            puts: 0,
-            done: 0,
-            refused: 0,
-        }
-    }
-
     fn note(&mut self, told: Told) {
-        match told {
-            Told::Put(_) => self.puts = self.puts.saturating_add(1),
-            Told::Done => self.done = self.done.saturating_add(1),
-            Told::No(_) => self.refused = self.refused.saturating_add(1),
-        }
+        let count = match told {
+            Told::Put(_) => &mut self.puts,
+            Told::Done => &mut self.done,
+            Told::No(_) => &mut self.refused,
+        };
+        *count = count.saturating_add(1);
     }
 }
 
@@ -56,8 +49,10 @@ fn any_step(memory: &mut [u64], chance: &mut Chance, limit: u64) -> Told {
 fn spoil(memory: &mut [u64], chance: &mut Chance) {
     let place = chance.below(WORDS as u64) as usize;
     let word = chance.below(40000);
-    if chance.below(5) == 0 && place < memory.len() {
-        memory[place] = word;
+    if chance.below(5) == 0
+        && let Some(spoiled) = memory.get_mut(place)
+    {
+        *spoiled = word;
     }
 }
 
@@ -66,7 +61,7 @@ pub fn garbage(heap: Global, seed: u64, limit: u64, steps: u64) -> Result<Answer
     let mut chance = Chance::new(seed);
     let mut memory = vec![in heap; 0u64; WORDS]?;
     fill(memory.as_mut_slice(), &mut chance, limit);
-    let mut answers = Answers::new();
+    let mut answers = Answers::default();
     for _ in 0..steps {
         answers.note(any_step(memory.as_mut_slice(), &mut chance, limit));
     }
@@ -77,7 +72,7 @@ pub fn garbage(heap: Global, seed: u64, limit: u64, steps: u64) -> Result<Answer
 pub fn spoiled(heap: Global, seed: u64, steps: u64) -> Result<Answers, AllocError> {
     let mut chance = Chance::new(seed);
     let mut memory = vec![in heap; 0u64; WORDS]?;
-    let mut answers = Answers::new();
+    let mut answers = Answers::default();
     for _ in 0..steps {
         answers.note(any_step(memory.as_mut_slice(), &mut chance, 2000));
         spoil(memory.as_mut_slice(), &mut chance);
@@ -87,9 +82,10 @@ pub fn spoiled(heap: Global, seed: u64, steps: u64) -> Result<Answers, AllocErro
 
 impl fmt::Display for Answers {
     fn fmt<W: fmt::Write>(&self, f: &mut fmt::Formatter<W>) -> fmt::Result {
-        let puts = self.puts;
-        let done = self.done;
-        let refused = self.refused;
-        write!(f, "{puts} puts, {done} done, {refused} refused")
+        write!(
+            f,
+            "{} puts, {} done, {} refused",
+            self.puts, self.done, self.refused
+        )
     }
 }

@@ -2,8 +2,9 @@
 use crate::chance::{Chance, Numbers};
 use crate::fault::Fault;
 use crate::trial::{End, Trial};
-use placing::Command;
-use std::alloc::Global;
+use placing::{Command, Refusal};
+use std::alloc::{AllocError, Global};
+use std::collections::BTreeMap;
 
 // Steps of which so many of a thousand are of each kind; the rest asks where a good is.
 #[derive(Clone, Copy)]
@@ -62,13 +63,14 @@ const STRETCHES: [Stretch; 6] = [
 ];
 
 // What came up in a run.
-#[derive(Clone, Copy)]
+#[derive(Drop)]
 pub struct Tally {
     pub steps: u64,
     pub puts: u64,
+    pub done: u64,
     pub most_goods: usize,
     pub most_shelves: usize,
-    pub refusals: [u64; 8],
+    refusals: BTreeMap<Refusal, u64>,
 }
 
 // The step at which a fault came up.
@@ -89,23 +91,35 @@ struct Run {
 }
 
 impl Tally {
-    fn new() -> Tally {
+    fn new(heap: Global) -> Tally {
         Tally {
             steps: 0,
             puts: 0,
+            done: 0,
             most_goods: 0,
             most_shelves: 0,
-            refusals: [0; 8],
+            refusals: BTreeMap::new(heap),
         }
     }
 
-    fn note(&mut self, end: End) {
+    fn note(&mut self, end: End) -> Result<(), AllocError> {
         self.steps = self.steps.saturating_add(1);
-        self.puts = self.puts.saturating_add(end.puts);
-        if end.refusal < 8 {
-            let kind = end.refusal as usize;
-            self.refusals[kind] = self.refusals[kind].saturating_add(1);
+        match end {
+            Ok(puts) => {
+                self.done = self.done.saturating_add(1);
+                self.puts = self.puts.saturating_add(puts);
+            }
+            Err(why) => {
+                let count = self.refusals.entry(why)?.or_insert(0);
+                *count = count.saturating_add(1);
+            }
         }
+        Ok(())
+    }
+
+    // How many commands were refused so.
+    pub fn refused(&self, why: Refusal) -> u64 {
+        self.refusals.get(&why).copied().unwrap_or(0)
     }
 }
 
@@ -153,7 +167,7 @@ impl Run {
 
     fn step(&mut self, command: Command) -> Result<(), Fault> {
         let end = self.trial.step(command)?;
-        self.tally.note(end);
+        self.tally.note(end)?;
         self.tally.most_goods = self.tally.most_goods.max(self.trial.model.stands.len());
         self.tally.most_shelves = self.tally.most_shelves.max(self.trial.model.loads.len());
         Ok(())
@@ -184,7 +198,10 @@ impl Run {
 pub fn long_run(heap: Global, numbers: Numbers, seed: u64) -> Result<Tally, Stop> {
     let trial = match Trial::new(heap, 32768) {
         Ok(trial) => trial,
-        Err(fault) => return Err(Stop { step: 0, fault }),
+        Err(error) => return Err(Stop {
+            step: 0,
+            fault: Fault::NoMemory(error),
+        }),
     };
     let mut run = Run {
         trial,
@@ -192,7 +209,7 @@ pub fn long_run(heap: Global, numbers: Numbers, seed: u64) -> Result<Tally, Stop
         numbers,
         next_good: 0,
         next_shelf: 0,
-        tally: Tally::new(),
+        tally: Tally::new(heap),
     };
     run.all()?;
     Ok(run.tally)

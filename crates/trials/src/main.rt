@@ -13,33 +13,25 @@ mod trial;
 use chance::Numbers;
 use fault::Fault;
 use garbage::{garbage, spoiled};
-use long::long_run;
-use placing::Command;
-use small::{Found, find};
+use long::{Stop, long_run};
+use placing::{Command, Refusal};
+use small::{Found, Search};
 use std::alloc::AllocError;
 use std::process::ExitCode;
 use std::{fmt, io};
+use thiserror::Error;
 
-// What went wrong is told; the process ends with status 1.
-#[derive(Clone, Copy, Debug)]
-struct Failed;
-
-impl From<Fault> for Failed {
-    fn from(_fault: Fault) -> Failed {
-        Failed
-    }
-}
-
-impl From<AllocError> for Failed {
-    fn from(_error: AllocError) -> Failed {
-        Failed
-    }
-}
-
-impl From<io::Error> for Failed {
-    fn from(_error: io::Error) -> Failed {
-        Failed
-    }
+// What went wrong is told already, or can't be.
+#[derive(Debug, Drop, Error)]
+enum Failed {
+    #[error("a fault was told")]
+    Told,
+    #[error(transparent)]
+    Untold(#[from] Fault),
+    #[error(transparent)]
+    NoMemory(#[from(alloc)] AllocError),
+    #[error(transparent)]
+    Unwritten(#[from] io::Error),
 }
 
 // A command as text.
@@ -59,20 +51,22 @@ impl fmt::Display for Shown {
 }
 
 fn print_found(rt: &HostRuntime, seed: u64, found: &Found) -> Result<(), Failed> {
-    let fault = found.fault;
-    println!(rt; "seed {seed}: {fault}, after")?;
-    for command in found.steps.as_slice() {
-        let shown = Shown(*command);
-        println!(rt; "  {shown}")?;
+    println!(rt; "seed {seed}: {}, after", found.fault)?;
+    for command in &found.steps {
+        println!(rt; "  {}", Shown(*command))?;
     }
     Ok(())
 }
 
 fn small_halls(rt: &HostRuntime) -> Result<(), Failed> {
+    let all = Search {
+        heap: rt.alloc(),
+        most_goods: 32768,
+    };
     for seed in 1..1001 {
-        if let Some(found) = find(rt.alloc(), seed, 100, 32768)? {
+        if let Some(found) = all.find(seed, 100)? {
             print_found(rt, seed, &found)?;
-            return Err(Failed);
+            return Err(Failed::Told);
         }
     }
     println!(rt; "small halls, seeds 1 to 1000, 100 steps each, beside all halls: no fault")?;
@@ -82,36 +76,41 @@ fn small_halls(rt: &HostRuntime) -> Result<(), Failed> {
 // The list is told that two goods are all that there is room for, so that a fault has to be found.
 fn planted(rt: &HostRuntime) -> Result<(), Failed> {
     println!(rt; "planted, room for two goods:")?;
-    match find(rt.alloc(), 1, 100, 2)? {
+    let two = Search {
+        heap: rt.alloc(),
+        most_goods: 2,
+    };
+    match two.find(1, 100)? {
         Some(found) => print_found(rt, 1, &found),
-        None => Err(Failed),
+        None => Err(Failed::Told),
     }
 }
 
 fn long_halls(rt: &HostRuntime, numbers: Numbers, seed: u64) -> Result<(), Failed> {
-    match long_run(rt.alloc(), numbers, seed) {
-        Ok(tally) => {
-            let steps = tally.steps;
-            let goods = tally.most_goods;
-            let shelves = tally.most_shelves;
-            let puts = tally.puts;
-            let [done, _, _, not_there, already, no_shelf, last, full] = tally.refusals;
-            println!(rt; "long run, numbers {numbers}, seed {seed}: no fault in {steps} steps")?;
-            println!(rt;
-                "  at most {goods} goods and {shelves} shelves; {puts} puts, {done} done"
-            )?;
-            println!(rt;
-                "  refused 3: {not_there}, 4: {already}, 5: {no_shelf}, 6: {last}, 7: {full}"
-            )?;
-            Ok(())
-        }
-        Err(stop) => {
-            let step = stop.step;
-            let fault = stop.fault;
+    let tally = match long_run(rt.alloc(), numbers, seed) {
+        Ok(tally) => tally,
+        Err(Stop { step, fault }) => {
             println!(rt; "long run, numbers {numbers}, seed {seed}: step {step}: {fault}")?;
-            Err(Failed)
+            return Err(Failed::Told);
         }
-    }
+    };
+    println!(rt;
+        "long run, numbers {numbers}, seed {seed}: no fault in {} steps",
+        tally.steps
+    )?;
+    println!(rt;
+        "  at most {} goods and {} shelves; {} puts, {} done",
+        tally.most_goods, tally.most_shelves, tally.puts, tally.done
+    )?;
+    println!(rt;
+        "  refused 3: {}, 4: {}, 5: {}, 6: {}, 7: {}",
+        tally.refused(Refusal::NotThere),
+        tally.refused(Refusal::AlreadyThere),
+        tally.refused(Refusal::NoShelf),
+        tally.refused(Refusal::LastShelf),
+        tally.refused(Refusal::Full)
+    )?;
+    Ok(())
 }
 
 fn garbage_memories(rt: &HostRuntime, limit: u64) -> Result<(), Failed> {
@@ -146,6 +145,6 @@ fn all_trials(rt: &HostRuntime) -> Result<(), Failed> {
 fn main(rt: HostRuntime) -> ExitCode {
     match all_trials(&rt) {
         Ok(()) => ExitCode::SUCCESS,
-        Err(Failed) => ExitCode::FAILURE,
+        Err(_) => ExitCode::FAILURE,
     }
 }

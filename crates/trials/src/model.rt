@@ -1,6 +1,6 @@
 // A hall as a plain list: where each good stands, and how many are on each shelf. It checks what the machine answers.
 use crate::fault::{Fault, expect};
-use placing::{Command, Spot};
+use placing::{Command, Refusal, Spot};
 use std::alloc::Global;
 use std::collections::{BTreeMap, BTreeSet};
 
@@ -31,46 +31,46 @@ impl Model {
         self.stands.get(&good).copied()
     }
 
-    fn good_comes_refusal(&self, good: u64) -> u64 {
+    fn good_comes_refusal(&self, good: u64) -> Option<Refusal> {
         if self.shelf(good).is_some() {
-            4
-        } else if self.loads.len() == 0 {
-            5
+            Some(Refusal::AlreadyThere)
+        } else if self.loads.is_empty() {
+            Some(Refusal::NoShelf)
         } else if self.stands.len() >= self.most_goods {
-            7
+            Some(Refusal::Full)
         } else {
-            0
+            None
         }
     }
 
-    fn shelf_comes_refusal(&self, shelf: u64) -> u64 {
-        if self.loads.get(&shelf).is_some() {
-            4
+    fn shelf_comes_refusal(&self, shelf: u64) -> Option<Refusal> {
+        if self.loads.contains_key(&shelf) {
+            Some(Refusal::AlreadyThere)
         } else if self.loads.len() >= self.most_shelves {
-            7
+            Some(Refusal::Full)
         } else {
-            0
+            None
         }
     }
 
-    fn shelf_goes_refusal(&self, shelf: u64) -> u64 {
-        if self.loads.get(&shelf).is_none() {
-            3
-        } else if self.loads.len() == 1 && self.stands.len() > 0 {
-            6
+    fn shelf_goes_refusal(&self, shelf: u64) -> Option<Refusal> {
+        if !self.loads.contains_key(&shelf) {
+            Some(Refusal::NotThere)
+        } else if self.loads.len() == 1 && !self.stands.is_empty() {
+            Some(Refusal::LastShelf)
         } else {
-            0
+            None
         }
     }
 
-    // The number of the refusal, 0 for none.
-    pub fn refusal(&self, command: Command) -> u64 {
+    // Why the command has to be refused, if it has.
+    pub fn refusal(&self, command: Command) -> Option<Refusal> {
         match command {
             Command::GoodComes(good) => self.good_comes_refusal(good),
             Command::ShelfComes(shelf) => self.shelf_comes_refusal(shelf),
             Command::ShelfGoes(shelf) => self.shelf_goes_refusal(shelf),
             Command::GoodGoes(good) | Command::WhereIs(good) => {
-                if self.shelf(good).is_some() { 0 } else { 3 }
+                self.shelf(good).is_none().then_some(Refusal::NotThere)
             }
         }
     }
@@ -91,7 +91,7 @@ impl Model {
             Command::GoodComes(_) | Command::WhereIs(_) => 1,
             Command::GoodGoes(good) => {
                 let load = self.load(self.shelf(good).unwrap_or(0));
-                if self.highest_load() > load { 1 } else { 0 }
+                u64::from(self.highest_load() > load)
             }
             Command::ShelfComes(_) => goods.checked_div(shelves.saturating_add(1)).unwrap_or(0),
             Command::ShelfGoes(shelf) => self.load(shelf),
@@ -115,7 +115,7 @@ impl Model {
 
     fn put(&mut self, spot: Spot) -> Result<(), Fault> {
         expect(
-            self.loads.get(&spot.shelf).is_some(),
+            self.loads.contains_key(&spot.shelf),
             "a good is put on a shelf that is not there",
         )?;
         expect(
@@ -191,7 +191,7 @@ impl Model {
     // The machine put this: it was right, and it is done here too.
     pub fn done(&mut self, heap: Global, command: Command, moves: &[Spot]) -> Result<(), Fault> {
         expect(
-            self.refusal(command) == 0,
+            self.refusal(command).is_none(),
             "a command is carried out that has to be refused",
         )?;
         expect(

@@ -2,8 +2,8 @@
 use crate::fault::{Fault, expect};
 use crate::model::Model;
 use owner::{Failure, Hall};
-use placing::{Command, Spot};
-use std::alloc::Global;
+use placing::{Command, Refusal, Spot};
+use std::alloc::{AllocError, Global};
 
 #[derive(Drop)]
 pub struct Trial {
@@ -12,15 +12,11 @@ pub struct Trial {
     pub model: Model,
 }
 
-// How a command ended: a refusal's number, 0 for none, and how many goods were put.
-#[derive(Clone, Copy)]
-pub struct End {
-    pub refusal: u64,
-    pub puts: u64,
-}
+// How a command ended: how many goods were put, or why it was refused.
+pub type End = Result<u64, Refusal>;
 
 impl Trial {
-    pub fn new(heap: Global, most_goods: usize) -> Result<Trial, Fault> {
+    pub fn new(heap: Global, most_goods: usize) -> Result<Trial, AllocError> {
         Ok(Trial {
             heap,
             hall: Hall::new(heap)?,
@@ -28,41 +24,33 @@ impl Trial {
         })
     }
 
-    fn refused(&self, command: Command, refusal: u64) -> Result<End, Fault> {
+    fn refused(&self, command: Command, why: Refusal) -> Result<End, Fault> {
         expect(
-            self.model.refusal(command) == refusal,
+            self.model.refusal(command) == Some(why),
             "a refusal is not the right one",
         )?;
-        Ok(End { refusal, puts: 0 })
+        Ok(Err(why))
     }
 
     fn carried(&mut self, command: Command, moves: &[Spot]) -> Result<End, Fault> {
         self.model.done(self.heap, command, moves)?;
-        Ok(End {
-            refusal: 0,
-            puts: moves.len() as u64,
-        })
+        Ok(Ok(moves.len() as u64))
     }
 
     pub fn step(&mut self, command: Command) -> Result<End, Fault> {
         match self.hall.tell(self.heap, command) {
             Ok(moves) => self.carried(command, moves.as_slice()),
-            Err(Failure::Refused(why)) => self.refused(command, why.number()),
-            Err(Failure::NoMemory) => Err(Fault {
-                what: "out of memory",
-            }),
+            Err(Failure::Refused(why)) => self.refused(command, why),
+            Err(Failure::NoMemory) => Err(Fault::NoMemory(AllocError)),
         }
     }
 
     // The machine says of each good where it stands.
     pub fn ask_all(&mut self) -> Result<(), Fault> {
         self.model.recount(self.heap)?;
-        let mut goods = Vec::new(self.heap);
-        for good in self.model.stands.keys() {
-            goods.push(*good)?;
-        }
-        for good in goods.as_slice() {
-            self.step(Command::WhereIs(*good))?;
+        let goods: Vec<u64> = self.model.stands.keys().copied().collect(self.heap)?;
+        for good in &goods {
+            let _ = self.step(Command::WhereIs(*good))?;
         }
         Ok(())
     }
