@@ -19,6 +19,13 @@ Writes to FILE a year of steps for compare: SHELVES shelves come, then GOODS goo
 random numbers; then in each of WEEKS weeks a few goods come and go, and a shelf comes or
 goes by chance, so that their number stays around SHELVES. The same SEED gives the same file.";
 
+// What the program is called for.
+#[derive(Drop)]
+enum Call {
+    Help,
+    Write { plan: Plan, file: String },
+}
+
 fn main(rt: HostRuntime) -> ExitCode {
     match run(&rt) {
         Ok(()) => ExitCode::SUCCESS,
@@ -30,64 +37,47 @@ fn main(rt: HostRuntime) -> ExitCode {
 }
 
 fn run(rt: &HostRuntime) -> Result<(), Trouble> {
-    let heap = rt.alloc();
-    let Some((plan, file)) = call(rt)? else {
-        println!(rt; "{USAGE}")?;
-        return Ok(());
-    };
-    let commands = year(heap, &plan)?;
-    let bytes = written(heap, commands.as_slice())?;
+    match asked(rt)? {
+        Call::Help => println!(rt; "{USAGE}")?,
+        Call::Write { plan, file } => write_year(rt, &plan, file)?,
+    }
+    Ok(())
+}
+
+fn write_year(rt: &HostRuntime, plan: &Plan, file: String) -> Result<(), Trouble> {
+    let commands = year(rt.alloc(), plan)?;
+    let bytes = written(rt.alloc(), commands.as_slice())?;
     if let Err(error) = fs::write(rt, file.as_str(), bytes.as_slice()) {
         return Err(Trouble::File { path: file, error });
     }
-    let count = commands.len();
-    println!(rt; "{count} steps")?;
+    println!(rt; "{} steps", commands.len())?;
     Ok(())
 }
 
 // The bytes of the steps, one after the other.
 fn written(heap: Global, commands: &[Command]) -> Result<Vec<u8>, AllocError> {
-    let mut bytes = Vec::new(heap);
-    for command in commands {
-        bytes.extend_from_slice(&encode(*command))?;
-    }
-    Ok(bytes)
+    commands.iter().copied().flat_map(encode).collect(heap)
 }
 
-// What is asked for; none where it is help.
-fn call(rt: &(impl Env + AllocGlobal)) -> Result<Option<(Plan, String)>, Trouble> {
-    let mut args = env::args(rt)?;
-    let _ = args.next();
-    let Some(first) = args.next() else {
-        return Err(Trouble::WrongCall);
-    };
+fn asked(rt: &(impl Env + AllocGlobal)) -> Result<Call, Trouble> {
+    let mut args = env::args(rt)?.skip(1);
+    let first = args.next().ok_or(Trouble::WrongCall)?;
     if first.as_str() == "--help" {
-        return Ok(None);
+        return Ok(Call::Help);
     }
-    let goods = number(Some(first))?;
-    let shelves = number(args.next())?;
-    let weeks = number(args.next())?;
-    let seed = number(args.next())?;
+    let plan = Plan {
+        goods: number(Some(first))?,
+        shelves: number(args.next())?,
+        weeks: number(args.next())?,
+        seed: number(args.next())?,
+    };
     match (args.next(), args.next()) {
-        (Some(file), None) => Ok(Some((
-            Plan {
-                goods,
-                shelves,
-                weeks,
-                seed,
-            },
-            file,
-        ))),
+        (Some(file), None) => Ok(Call::Write { plan, file }),
         _ => Err(Trouble::WrongCall),
     }
 }
 
 fn number(word: Option<String>) -> Result<u64, Trouble> {
-    let Some(text) = word else {
-        return Err(Trouble::WrongCall);
-    };
-    match text.as_str().parse::<u64>() {
-        Ok(number) => Ok(number),
-        Err(_) => Err(Trouble::WrongCall),
-    }
+    word.and_then(|text| text.as_str().parse().ok())
+        .ok_or(Trouble::WrongCall)
 }

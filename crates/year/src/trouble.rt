@@ -1,40 +1,16 @@
 // What can go wrong, and how it is said.
-use std::alloc::{AllocError, AllocFailed};
-use std::{fmt, io};
+use std::alloc::AllocError;
+use std::io;
+use thiserror::Error;
 
-#[derive(Drop)]
+#[derive(Debug, Drop, Error)]
 pub enum Trouble {
+    #[error("wrong call; see year --help")]
     WrongCall,
-    NoMemory,
-    Stream(io::Error),
+    #[error("no memory")]
+    NoMemory(#[from(alloc)] AllocError),
+    #[error("{0}")]
+    Stream(#[from] io::Error),
+    #[error("{path}: {error}")]
     File { path: String, error: io::Error },
-}
-
-impl fmt::Display for Trouble {
-    fn fmt<W: fmt::Write>(&self, f: &mut fmt::Formatter<W>) -> fmt::Result {
-        match self {
-            Trouble::WrongCall => write!(f, "wrong call; see year --help"),
-            Trouble::NoMemory => write!(f, "no memory"),
-            Trouble::Stream(error) => write!(f, "{error}"),
-            Trouble::File { path, error } => write!(f, "{path}: {error}"),
-        }
-    }
-}
-
-impl From<AllocError> for Trouble {
-    fn from(_error: AllocError) -> Trouble {
-        Trouble::NoMemory
-    }
-}
-
-impl<T: Drop> From<AllocFailed<T>> for Trouble {
-    fn from(_error: AllocFailed<T>) -> Trouble {
-        Trouble::NoMemory
-    }
-}
-
-impl From<io::Error> for Trouble {
-    fn from(error: io::Error) -> Trouble {
-        Trouble::Stream(error)
-    }
 }

@@ -1,6 +1,7 @@
 // The commands of a year.
 use placing::Command;
-use rules::mix;
+use rand_core::{Rng, SeedableRng};
+use rand_xoshiro::SplitMix64;
 use std::alloc::{AllocError, Global};
 
 // How much there is to be, and the seed of what is left to chance.
@@ -20,8 +21,11 @@ struct Story {
     shelves: Vec<u64>,
     // The number that the next shelf gets.
     next: u64,
-    chance: u64,
+    chance: SplitMix64,
 }
+
+// The generator adds this to its state at each number; the first number of a year is the second after the seed.
+const STEP: u64 = 0x9e37_79b9_7f4a_7c15;
 
 pub fn year(heap: Global, plan: &Plan) -> Result<Vec<Command>, AllocError> {
     let mut story = Story {
@@ -29,7 +33,7 @@ pub fn year(heap: Global, plan: &Plan) -> Result<Vec<Command>, AllocError> {
         goods: Vec::new(heap),
         shelves: Vec::new(heap),
         next: 1,
-        chance: plan.seed,
+        chance: SplitMix64::seed_from_u64(plan.seed.wrapping_add(STEP)),
     };
     for _ in 0..plan.shelves {
         story.shelf_comes()?;
@@ -40,20 +44,12 @@ pub fn year(heap: Global, plan: &Plan) -> Result<Vec<Command>, AllocError> {
     for _ in 0..plan.weeks {
         story.week(plan)?;
     }
-    let Story {
-        commands,
-        goods: _,
-        shelves: _,
-        next: _,
-        chance: _,
-    } = story;
-    Ok(commands)
+    Ok(story.commands)
 }
 
 impl Story {
     fn random(&mut self) -> u64 {
-        self.chance = self.chance.wrapping_add(0x9e37_79b9_7f4a_7c15);
-        mix(self.chance)
+        self.chance.next_u64()
     }
 
     fn shelf_comes(&mut self) -> Result<(), AllocError> {
@@ -105,9 +101,6 @@ impl Story {
 
 // Takes one out of a list, by chance.
 fn take_one(numbers: &mut Vec<u64>, chance: u64) -> Option<u64> {
-    let count = numbers.len();
-    if count == 0 {
-        return None;
-    }
-    Some(numbers.swap_remove((chance % count as u64) as usize))
+    let place = chance.checked_rem(numbers.len() as u64)?;
+    Some(numbers.swap_remove(place as usize))
 }
