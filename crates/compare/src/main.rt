@@ -54,27 +54,18 @@ fn run(rt: &HostRuntime) -> Result<(), Trouble> {
 }
 
 fn asked(rt: &(impl Env + AllocGlobal)) -> Result<Call, Trouble> {
-    let mut args = env::args(rt)?;
-    let _ = args.next();
-    let Some(first) = args.next() else {
-        return Err(Trouble::WrongCall);
-    };
-    if first.as_str() == "--help" {
-        return Ok(Call::Help);
-    }
-    if first.as_str() != "--svg" {
-        return match args.next() {
-            None => Ok(Call::Compare {
-                steps: first,
-                svg: None,
-            }),
-            Some(_) => Err(Trouble::WrongCall),
-        };
-    }
-    match (args.next(), args.next(), args.next()) {
-        (Some(file), Some(steps), None) => Ok(Call::Compare {
+    let mut args = env::args(rt)?.skip(1);
+    let first = args.next().ok_or(Trouble::WrongCall)?;
+    match (first.as_str(), args.next(), args.next(), args.next()) {
+        ("--help", ..) => Ok(Call::Help),
+        ("--svg", Some(file), Some(steps), None) => Ok(Call::Compare {
             steps,
             svg: Some(file),
+        }),
+        ("--svg", ..) => Err(Trouble::WrongCall),
+        (_, None, ..) => Ok(Call::Compare {
+            steps: first,
+            svg: None,
         }),
         _ => Err(Trouble::WrongCall),
     }

@@ -21,80 +21,62 @@ const HEAD: &str =
 <path d=\"M80 50V410H780\" fill=\"none\" stroke=\"#444\"/>
 ";
 
+const COLOURS: [&str; 4] = ["#d62728", "#1f77b4", "#2ca02c", "#ff7f0e"];
+
+const OURS: &str = "#000000";
+
 pub fn picture(heap: Global, contests: &[Contest]) -> Result<String, AllocError> {
-    let mut text = String::from_str(heap, HEAD)?;
-    let top = height(greatest(contests)).max(1);
-    grid(heap, &mut text, top)?;
-    ticks(heap, &mut text, contests)?;
+    let mut drawing = Drawing {
+        text: String::from_str(heap, HEAD)?,
+        top: height(greatest(contests)).max(1),
+    };
+    drawing.grid()?;
+    if let Some(first) = contests.first() {
+        drawing.ticks(first.ours.at_shelves.len())?;
+    }
     for (place, contest) in contests.iter().enumerate() {
-        curve(
-            heap,
-            &mut text,
-            contest.theirs.at_shelves.as_slice(),
-            top,
-            colour(place),
-            2,
-        )?;
-        legend(heap, &mut text, name(contest.rule), colour(place), place)?;
+        let colour = COLOURS[place % COLOURS.len()];
+        drawing.curve(contest.theirs.at_shelves.as_slice(), colour, 2)?;
+        drawing.legend(name(contest.rule), colour, place)?;
     }
     if let Some(first) = contests.first() {
-        curve(
-            heap,
-            &mut text,
-            first.ours.at_shelves.as_slice(),
-            top,
-            "#000000",
-            3,
-        )?;
-        legend(heap, &mut text, "ours", "#000000", contests.len())?;
+        drawing.curve(first.ours.at_shelves.as_slice(), OURS, 3)?;
+        drawing.legend("ours", OURS, contests.len())?;
     }
-    text.push_str("</svg>\n")?;
-    Ok(text)
+    drawing.text.push_str("</svg>\n")?;
+    Ok(drawing.text)
 }
 
-fn colour(place: usize) -> &'static str {
-    match place {
-        0 => "#d62728",
-        1 => "#1f77b4",
-        2 => "#2ca02c",
-        _ => "#ff7f0e",
-    }
-}
-
-// The most goods that a rule carried at one shelf.
+// The most goods that a rule carried at one shelf; ten at least.
 fn greatest(contests: &[Contest]) -> u64 {
-    let mut most = 10;
-    for contest in contests {
-        for carried in contest.theirs.at_shelves.as_slice() {
-            most = most.max(*carried);
-        }
-        for carried in contest.ours.at_shelves.as_slice() {
-            most = most.max(*carried);
-        }
-    }
-    most
+    contests
+        .iter()
+        .flat_map(|contest| contest
+            .theirs
+            .at_shelves
+            .iter()
+            .chain(contest.ours.at_shelves.iter()))
+        .copied()
+        .fold(10, u64::max)
 }
 
 // A thousand for each doubling, and in between in proportion: close to a logarithm.
 fn height(number: u64) -> u64 {
-    for doublings in 0..63u64 {
-        let power = 1u64 << doublings;
-        if number / power < 2 {
-            return (doublings * 1000).saturating_add(
-                number.saturating_sub(power).saturating_mul(1000) / power,
-            );
-        }
+    let Some(doublings) = number.checked_ilog2() else {
+        return 0;
+    };
+    if doublings >= 63 {
+        return 63000;
     }
-    63000
+    let power = 1u64 << doublings;
+    let above = number.saturating_sub(power).saturating_mul(1000) / power;
+    (u64::from(doublings) * 1000).saturating_add(above)
 }
 
 // How far down a number is drawn.
 fn down(number: u64, top: u64) -> u64 {
-    if top == 0 {
-        return TOP;
-    }
-    let up = height(number).saturating_mul(HEIGHT) / top;
-    (TOP + HEIGHT).saturating_sub(up)
+    let up = height(number).saturating_mul(HEIGHT).checked_div(top);
+    (TOP + HEIGHT).saturating_sub(up.unwrap_or(HEIGHT))
 }
 
 // How far to the right the shelf at a place is drawn.
@@ -103,74 +85,58 @@ fn right(place: usize, count: usize) -> u64 {
     LEFT.saturating_add((place as u64).saturating_mul(WIDTH) / steps)
 }
 
-fn grid(heap: Global, text: &mut String, top: u64) -> Result<(), AllocError> {
-    let mut number = 1u64;
-    for _ in 0..19 {
-        if height(number) > top {
-            break;
-        }
-        let y = down(number, top);
-        let below = y.saturating_add(4);
-        let line = format!(in heap;
-            "<path d=\"M80 {y}H780\" stroke=\"#ddd\"/>\n<text x=\"72\" y=\"{below}\" text-anchor=\"end\">{number}</text>\n"
-        )?;
-        text.push_str(line.as_str())?;
-        number = number.saturating_mul(10);
-    }
-    Ok(())
+// The text of a picture so far, and the height at its top.
+#[derive(Drop)]
+struct Drawing {
+    text: String,
+    top: u64,
 }
 
-// The number of each tenth shelf that came or went.
-fn ticks(heap: Global, text: &mut String, contests: &[Contest]) -> Result<(), AllocError> {
-    let Some(first) = contests.first() else {
-        return Ok(());
-    };
-    let count = first.ours.at_shelves.len();
-    for place in 0..count {
-        if place % 10 == 9 {
-            let x = right(place, count);
-            let number = place + 1;
-            let tick = format!(in heap;
+impl Drawing {
+    // A line for each power of ten.
+    fn grid(&mut self) -> Result<(), AllocError> {
+        let powers = (0..19).map(|power| 10u64.saturating_pow(power));
+        for number in powers.take_while(|number| height(*number) <= self.top) {
+            let y = down(number, self.top);
+            write!(
+                self.text,
+                "<path d=\"M80 {y}H780\" stroke=\"#ddd\"/>\n<text x=\"72\" y=\"{}\" text-anchor=\"end\">{number}</text>\n",
+                y.saturating_add(4)
+            )?;
+        }
+        Ok(())
+    }
+
+    // The number of each tenth shelf that came or went.
+    fn ticks(&mut self, count: usize) -> Result<(), AllocError> {
+        for number in (10..=count).step_by(10) {
+            let x = right(number - 1, count);
+            write!(
+                self.text,
                 "<path d=\"M{x} 410v6\" stroke=\"#444\"/>\n<text x=\"{x}\" y=\"432\" text-anchor=\"middle\">{number}</text>\n"
             )?;
-            text.push_str(tick.as_str())?;
         }
+        Ok(())
     }
-    Ok(())
-}
 
-fn curve(
-    heap: Global,
-    text: &mut String,
-    numbers: &[u64],
-    top: u64,
-    stroke: &str,
-    width: u64,
-) -> Result<(), AllocError> {
-    let head = format!(in heap;
-        "<polyline fill=\"none\" stroke=\"{stroke}\" stroke-width=\"{width}\" points=\""
-    )?;
-    text.push_str(head.as_str())?;
-    for (place, number) in numbers.iter().enumerate() {
-        let x = right(place, numbers.len());
-        let y = down(*number, top);
-        let point = format!(in heap; "{x},{y} ")?;
-        text.push_str(point.as_str())?;
+    fn curve(&mut self, numbers: &[u64], stroke: &str, width: u64) -> Result<(), AllocError> {
+        write!(
+            self.text,
+            "<polyline fill=\"none\" stroke=\"{stroke}\" stroke-width=\"{width}\" points=\""
+        )?;
+        for (place, number) in numbers.iter().enumerate() {
+            let x = right(place, numbers.len());
+            write!(self.text, "{x},{} ", down(*number, self.top))?;
+        }
+        self.text.push_str("\"/>\n")
     }
-    text.push_str("\"/>\n")
-}
 
-fn legend(
-    heap: Global,
-    text: &mut String,
-    name: &str,
-    stroke: &str,
-    place: usize,
-) -> Result<(), AllocError> {
-    let y = (place as u64).saturating_mul(24).saturating_add(70);
-    let below = y.saturating_add(4);
-    let line = format!(in heap;
-        "<path d=\"M796 {y}H816\" stroke=\"{stroke}\" stroke-width=\"3\"/>\n<text x=\"822\" y=\"{below}\">{name}</text>\n"
-    )?;
-    text.push_str(line.as_str())
+    fn legend(&mut self, name: &str, stroke: &str, place: usize) -> Result<(), AllocError> {
+        let y = (place as u64).saturating_mul(24).saturating_add(70);
+        write!(
+            self.text,
+            "<path d=\"M796 {y}H816\" stroke=\"{stroke}\" stroke-width=\"3\"/>\n<text x=\"822\" y=\"{}\">{name}</text>\n",
+            y.saturating_add(4)
+        )
+    }
 }

@@ -7,11 +7,7 @@ use std::alloc::{AllocError, Global};
 // A number of tenths, or a dash.
 fn decimal(heap: Global, number: Option<u64>) -> Result<String, AllocError> {
     match number {
-        Some(n) => {
-            let whole = n / 10;
-            let tenth = n % 10;
-            format!(in heap; "{whole}.{tenth}")
-        }
+        Some(n) => format!(in heap; "{}.{}", n / 10, n % 10),
         None => String::from_str(heap, "-"),
     }
 }
@@ -52,10 +48,11 @@ fn line(
     tally: &Tally,
     ours: u64,
 ) -> Result<(), AllocError> {
-    let carried = tally.carried;
     let each = decimal(heap, tally.each_shelf())?;
-    let worst = tally.worst;
     let times = decimal(heap, tenths(tally.carried, ours))?;
-    let text = format!(in heap; "\n{name:<12}{carried:>12}{each:>16}{worst:>18}{times:>12}")?;
-    lines.push_str(text.as_str())
+    write!(
+        lines,
+        "\n{name:<12}{:>12}{each:>16}{:>18}{times:>12}",
+        tally.carried, tally.worst
+    )
 }

@@ -31,18 +31,18 @@ impl Tally {
 
     // How many goods were carried for a shelf that came or went, in tenths; none where no shelf did.
     pub fn each_shelf(&self) -> Option<u64> {
-        let mut sum = 0u64;
-        for carried in self.at_shelves.as_slice() {
-            sum = sum.saturating_add(*carried);
-        }
+        let sum = self
+            .at_shelves
+            .iter()
+            .fold(0u64, |sum, carried| sum.saturating_add(*carried));
         tenths(sum, self.at_shelves.len() as u64)
     }
 }
 
 // The quotient in tenths, rounded; none where there is nothing to divide by.
 pub fn tenths(number: u64, by: u64) -> Option<u64> {
-    if by == 0 {
-        return None;
-    }
-    Some(number.saturating_mul(10).saturating_add(by / 2) / by)
+    number
+        .saturating_mul(10)
+        .saturating_add(by / 2)
+        .checked_div(by)
 }

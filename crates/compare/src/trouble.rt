@@ -1,59 +1,26 @@
 // What can go wrong, and how it is said.
-use std::alloc::{AllocError, AllocFailed};
-use std::{fmt, io};
+use std::alloc::AllocError;
+use std::io;
 use steps::Flaw;
+use thiserror::Error;
 
-#[derive(Drop)]
+#[derive(Debug, Drop, Error)]
 pub enum Trouble {
+    #[error("wrong call\nusage: compare STEPS\n       compare --svg FILE STEPS")]
     WrongCall,
-    NoMemory,
-    Stream(io::Error),
+    #[error("out of memory")]
+    NoMemory(#[from(alloc)] AllocError),
+    #[error("{0}")]
+    Stream(#[from] io::Error),
+    #[error("{path}: {error}")]
     File {
         path: String,
         error: io::Error,
     },
+    #[error("{path}: step {number}: {flaw}")]
     Step {
         path: String,
         number: usize,
         flaw: Flaw,
     },
-}
-
-impl fmt::Display for Trouble {
-    fn fmt<W: fmt::Write>(&self, f: &mut fmt::Formatter<W>) -> fmt::Result {
-        match self {
-            Trouble::WrongCall => write!(
-                f,
-                "wrong call\nusage: compare STEPS\n       compare --svg FILE STEPS"
-            ),
-            Trouble::NoMemory => write!(f, "out of memory"),
-            Trouble::Stream(error) => write!(f, "{error}"),
-            Trouble::File { path, error } => write!(f, "{path}: {error}"),
-            Trouble::Step { path, number, flaw } => match flaw {
-                Flaw::BadKind(kind) => write!(
-                    f,
-                    "{path}: step {number}: its kind is {kind}, and the highest is 4"
-                ),
-                Flaw::Torn => write!(f, "{path}: step {number}: the file ends within it"),
-            },
-        }
-    }
-}
-
-impl From<AllocError> for Trouble {
-    fn from(_error: AllocError) -> Trouble {
-        Trouble::NoMemory
-    }
-}
-
-impl<T: Drop> From<AllocFailed<T>> for Trouble {
-    fn from(_error: AllocFailed<T>) -> Trouble {
-        Trouble::NoMemory
-    }
-}
-
-impl From<io::Error> for Trouble {
-    fn from(error: io::Error) -> Trouble {
-        Trouble::Stream(error)
-    }
 }

@@ -6,6 +6,7 @@ ghost use Rattle.steps.specs.Format.{kind_of, written, step_in, left_after, Read
 ghost use Rattle.std.specs.Iterator.{at_most};
 
 use placing::Command;
+use std::fmt;
 
 // The bytes of a step.
 pub const STEP: usize = 9;
@@ -15,6 +16,15 @@ pub const STEP: usize = 9;
 pub enum Flaw {
     Torn,
     BadKind(u8),
+}
+
+impl fmt::Display for Flaw {
+    fn fmt<W: fmt::Write>(&self, f: &mut fmt::Formatter<W>) -> fmt::Result {
+        match self {
+            Flaw::Torn => write!(f, "the file ends within it"),
+            Flaw::BadKind(kind) => write!(f, "its kind is {kind}, and the highest is 4"),
+        }
+    }
 }
 
 // The byte for the kind.
