@@ -1,6 +1,7 @@
 // What a call of the program asks for.
 use std::env::Args;
-use std::{fmt, io};
+use std::io;
+use thiserror::Error;
 
 #[derive(Drop)]
 pub enum Call {
@@ -9,24 +10,17 @@ pub enum Call {
 }
 
 // What is wrong with a call.
-#[derive(Drop)]
+#[derive(Debug, Drop, Error)]
 pub enum Misuse {
+    #[error("no file of steps is given")]
     NoFile,
+    #[error("unexpected argument `{0}`")]
     Unexpected(String),
+    #[error("unknown option `{0}`")]
     UnknownOption(String),
     // An argument is no text, or there is no memory for it.
-    Unreadable(io::Error),
-}
-
-impl fmt::Display for Misuse {
-    fn fmt<W: fmt::Write>(&self, f: &mut fmt::Formatter<W>) -> fmt::Result {
-        match self {
-            Misuse::NoFile => write!(f, "no file of steps is given"),
-            Misuse::Unexpected(word) => write!(f, "unexpected argument `{word}`"),
-            Misuse::UnknownOption(word) => write!(f, "unknown option `{word}`"),
-            Misuse::Unreadable(why) => write!(f, "the arguments can't be read: {why}"),
-        }
-    }
+    #[error("the arguments can't be read: {0}")]
+    Unreadable(#[from] io::Error),
 }
 
 // The arguments begin with the program's name.

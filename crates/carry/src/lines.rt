@@ -16,15 +16,8 @@ impl fmt::Display for Line {
 
     fn fmt<W: fmt::Write>(&self, f: &mut fmt::Formatter<W>) -> fmt::Result {
         match *self {
-            Line::Put(spot) => {
-                let good = spot.good;
-                let shelf = spot.shelf;
-                write!(f, "{good} on {shelf}")
-            }
-            Line::Refused(why) => {
-                let number = why.number();
-                write!(f, "refused {number}")
-            }
+            Line::Put(spot) => write!(f, "{} on {}", spot.good, spot.shelf),
+            Line::Refused(why) => write!(f, "refused {}", why.number()),
         }
     }
 }

@@ -7,9 +7,11 @@ mod run;
 
 use call::{Call, Misuse, call_of};
 use run::{Trouble, run};
+use std::alloc::AllocError;
 use std::io::BufWriter;
 use std::process::ExitCode;
-use std::{env, fs};
+use std::rt::Env;
+use std::{env, fmt, fs};
 
 const USAGE: &str = "usage: carry STEPS";
 
@@ -33,56 +35,39 @@ that is refused `refused` and why:
 
 carry --help prints this.";
 
-// What went wrong is told; the process ends with status 1.
-#[derive(Clone, Copy)]
-struct Failed;
-
-fn tell_misuse(rt: &HostRuntime, misuse: &Misuse) -> Result<(), Failed> {
-    let _ = eprintln!(rt; "carry: {misuse}\n{USAGE}");
-    Err(Failed)
-}
-
-fn tell_trouble(rt: &HostRuntime, file: &str, trouble: &Trouble) -> Result<(), Failed> {
-    let _ = eprintln!(rt; "carry: {file}: {trouble}");
-    Err(Failed)
-}
-
-fn help(rt: &HostRuntime) -> Result<(), Failed> {
-    match println!(rt; "{HELP}") {
-        Ok(()) => Ok(()),
-        Err(_) => Err(Failed),
+// What went wrong, if anything, is told by now.
+fn code<E: Drop>(ended: Result<(), E>) -> ExitCode {
+    match ended {
+        Ok(()) => ExitCode::SUCCESS,
+        Err(_) => ExitCode::FAILURE,
     }
 }
 
-fn carry(rt: &HostRuntime, file: &str) -> Result<(), Failed> {
-    let bytes = match fs::read(rt, file) {
-        Ok(bytes) => bytes,
-        Err(why) => return tell_trouble(rt, file, &Trouble::Unread(why)),
-    };
+fn asked(rt: &(impl Env + AllocGlobal)) -> Result<Call, Misuse> {
+    call_of(env::args(rt)?)
+}
+
+fn carry(rt: &HostRuntime, file: &str) -> Result<(), Trouble> {
+    let bytes = fs::read(rt, file).map_err(Trouble::Unread)?;
     let Ok(mut out) = BufWriter::new(rt.alloc(), rt.stdout()) else {
-        return tell_trouble(rt, file, &Trouble::NoMemory);
+        return Err(Trouble::NoMemory(AllocError));
     };
-    match run(rt.alloc(), bytes.as_slice(), &mut out) {
-        Ok(()) => Ok(()),
-        Err(why) => tell_trouble(rt, file, &why),
-    }
+    run(rt.alloc(), bytes.as_slice(), &mut out)
 }
 
-fn answer(rt: &HostRuntime) -> Result<(), Failed> {
-    let args = match env::args(rt) {
-        Ok(args) => args,
-        Err(why) => return tell_misuse(rt, &Misuse::Unreadable(why)),
-    };
-    match call_of(args) {
-        Ok(Call::Help) => help(rt),
-        Ok(Call::Carry(file)) => carry(rt, file.as_str()),
-        Err(misuse) => tell_misuse(rt, &misuse),
-    }
+fn tell(rt: &HostRuntime, what: &impl fmt::Display) {
+    let _ = eprintln!(rt; "carry: {what}");
 }
 
 fn main(rt: HostRuntime) -> ExitCode {
-    match answer(&rt) {
-        Ok(()) => ExitCode::SUCCESS,
-        Err(Failed) => ExitCode::FAILURE,
+    match asked(&rt) {
+        Ok(Call::Help) => code(println!(rt; "{HELP}")),
+        Ok(Call::Carry(file)) => code(carry(&rt, file.as_str()).inspect_err(|trouble| {
+            tell(&rt, &format_args!("{file}: {trouble}"));
+        })),
+        Err(misuse) => {
+            tell(&rt, &format_args!("{misuse}\n{USAGE}"));
+            ExitCode::FAILURE
+        }
     }
 }

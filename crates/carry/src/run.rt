@@ -3,43 +3,22 @@ use crate::lines::Line;
 use owner::{Failure, Hall};
 use placing::Command;
 use std::alloc::{AllocError, Global};
+use std::io;
 use std::io::Write;
-use std::{fmt, io};
 use steps::{Flaw, Steps};
+use thiserror::Error;
 
 // Why the steps were not, or not all, carried out.
-#[derive(Drop)]
+#[derive(Debug, Drop, Error)]
 pub enum Trouble {
+    #[error("{0}")]
     Unread(io::Error),
-    Unwritten(io::Error),
-    NoMemory,
-    Flawed(Flaw, usize),
-}
-
-impl From<AllocError> for Trouble {
-    fn from(_error: AllocError) -> Trouble {
-        Trouble::NoMemory
-    }
-}
-
-impl From<io::Error> for Trouble {
-    fn from(why: io::Error) -> Trouble {
-        Trouble::Unwritten(why)
-    }
-}
-
-impl fmt::Display for Trouble {
-    fn fmt<W: fmt::Write>(&self, f: &mut fmt::Formatter<W>) -> fmt::Result {
-        match self {
-            Trouble::Unread(why) => write!(f, "{why}"),
-            Trouble::Unwritten(why) => write!(f, "what was done can't be written: {why}"),
-            Trouble::NoMemory => write!(f, "out of memory"),
-            Trouble::Flawed(Flaw::Torn, step) => write!(f, "step {step}: the file ends within it"),
-            Trouble::Flawed(Flaw::BadKind(kind), step) => {
-                write!(f, "step {step}: its kind is {kind}, and the highest is 4")
-            }
-        }
-    }
+    #[error("what was done can't be written: {0}")]
+    Unwritten(#[from] io::Error),
+    #[error("out of memory")]
+    NoMemory(#[from(alloc)] AllocError),
+    #[error("step {step}: {flaw}")]
+    Flawed { flaw: Flaw, step: usize },
 }
 
 // Carries out one command, and writes what is put, or why it is refused.
@@ -51,19 +30,14 @@ fn carry_out<W: Write>(
 ) -> Result<(), Trouble> {
     match hall.tell(heap, command) {
         Ok(moves) => {
-            for spot in moves.as_slice() {
-                let line = Line::Put(*spot);
-                writeln!(out, "{line}")?;
+            for spot in &moves {
+                writeln!(out, "{}", Line::Put(*spot))?;
             }
-            Ok(())
         }
-        Err(Failure::Refused(why)) => {
-            let line = Line::Refused(why);
-            writeln!(out, "{line}")?;
-            Ok(())
-        }
-        Err(Failure::NoMemory) => Err(Trouble::NoMemory),
+        Err(Failure::Refused(why)) => writeln!(out, "{}", Line::Refused(why))?,
+        Err(Failure::NoMemory) => return Err(Trouble::NoMemory(AllocError)),
     }
+    Ok(())
 }
 
 // Carries out the steps in the bytes up to the first flaw.
@@ -72,7 +46,10 @@ fn carry_all<W: Write>(heap: Global, bytes: &[u8], out: &mut W) -> Result<(), Tr
     for (before, step) in Steps::new(bytes).enumerate() {
         match step {
             Ok(command) => carry_out(heap, &mut hall, command, out)?,
-            Err(flaw) => return Err(Trouble::Flawed(flaw, before.saturating_add(1))),
+            Err(flaw) => return Err(Trouble::Flawed {
+                flaw,
+                step: before.saturating_add(1),
+            }),
         }
     }
     Ok(())
