@@ -8,14 +8,14 @@ ghost use Rattle.words.specs.Slots.{some_slot};
 pub fn read(region: &[u64], place: u64) -> u64
     ensures { result ≡ slice_index region.now place }
 {
-    let i = place as usize;
-    if i < region.len() { region[i] } else { 0 }
+    region.get(place as usize).copied().unwrap_or(0)
 }
 
 // Writes the word at a place; past the end nothing is written.
 pub fn write(region: &mut [u64], place: u64, value: u64)
     ensures { region.new ≡ slice_set region.old place value }
 {
+    // Not by `get_mut`: of a slice that was written through it a proof knows the length alone.
     let i = place as usize;
     if i < region.len() {
         region[i] = value;
@@ -26,5 +26,5 @@ pub fn write(region: &mut [u64], place: u64, value: u64)
 pub fn as_slot(word: u64) -> Option<u64>
     ensures { result ≡ some_slot word }
 {
-    if word == 0 { None } else { Some(word) }
+    (word != 0).then_some(word)
 }

@@ -1,9 +1,0 @@
--- What is left of the search gives the whole.
-use Rattle.std.proofs.Common.{◌≡◌, ◌-◌}
-use Rattle.index_model.specs.Model.{levels, descend, locate_in, slot_at, number_at}
-use Rattle.index.proofs.locate.Given as goal
-
-abbrev pub invariant-loop-level : goal.invariant-loop-level
-invariant-loop-level g l =
-    descend g.row.BITS (slot_at g.row.BITS l.memory) (number_at g.row.BITS l.memory) l.number (levels g.row.BITS - l.level) l.half l.place l.rest
-    ≡ locate_in g.row.BITS l.memory l.number
