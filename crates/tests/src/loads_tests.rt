@@ -39,21 +39,14 @@ fn shelf_at(row: &[Shelf], slot: u64) -> Shelf {
     row.get(slot as usize).copied().unwrap_or_default()
 }
 
-// The first shelf that is there and has the least load.
-fn least_of(row: &[Shelf]) -> Option<u64> {
+// The first shelf that is there and has the least key.
+fn first_least<K: Ord + Drop, F: Fn(&Shelf) -> K + Drop>(row: &[Shelf], key: F) -> Option<u64>
+    requires { F.IsAlwaysCallable key }
+{
     row.iter()
         .enumerate()
         .filter(|(_, shelf)| shelf.there)
-        .min_by_key(|(_, shelf)| shelf.load)
-        .map(|(slot, _)| slot as u64)
-}
-
-// The first shelf that is there and has the greatest load: the least one in the order that is turned round.
-fn greatest_of(row: &[Shelf]) -> Option<u64> {
-    row.iter()
-        .enumerate()
-        .filter(|(_, shelf)| shelf.there)
-        .min_by_key(|(_, shelf)| Reverse(shelf.load))
+        .min_by_key(|(_, shelf)| key(shelf))
         .map(|(slot, _)| slot as u64)
 }
 
@@ -106,8 +99,8 @@ fn apply(change: Change, loads: &mut Loads<&mut [u64]>, row: &mut [Shelf], slot:
 
 // Both give the same answers.
 fn agree(rt: &impl Abort, loads: &Loads<&mut [u64]>, row: &[Shelf]) {
-    assert!(rt; loads.emptiest() == least_of(row));
-    assert!(rt; loads.fullest() == greatest_of(row));
+    assert!(rt; loads.emptiest() == first_least(row, |shelf| shelf.load));
+    assert!(rt; loads.fullest() == first_least(row, |shelf| Reverse(shelf.load)));
     for slot in SLOTS {
         assert_eq!(rt; loads.load_of(slot), shelf_at(row, slot).load);
     }
