@@ -1,1 +1,2 @@
 -- The crate's proofs.
+pub mod NoGood

@@ -1,2 +1,3 @@
 -- The crate's definitions.
+pub mod Columns
 pub mod View

@@ -1,2 +1,1 @@
 -- The modules of these proofs.
-mod Row

@@ -1,3 +1,2 @@
 -- The modules of these definitions.
-pub mod Trees
 pub mod Entry

@@ -1,4 +1,5 @@
 // The contents of shelves, beside a plain list of goods and their shelves.
+use crate::random::Random;
 use contents::*;
 use std::process::Abort;
 use std::test::Fail;
@@ -13,59 +14,42 @@ struct Spot {
 
 // Whether the walk, the links and the count give the goods of the shelf and no other, the newest first;
 // in the list it is last.
-fn agrees(memory: &[u64], spots: &[Spot], shelf: u64) -> bool {
-    let mut walk = walk_in(memory, shelf);
-    let mut link = first_in(memory, shelf);
-    let mut seen = 0u64;
-    for spot in spots.iter().rev() {
-        if spot.shelf == shelf {
-            if walk.next() != Some(spot.good) || link != Some(spot.good) {
-                return false;
-            }
-            link = next_in(memory, spot.good);
-            seen = seen.saturating_add(1);
+fn agrees(contents: &Contents<&mut [u64]>, spots: &[Spot], shelf: u64) -> bool {
+    let mut walk = contents.walk(shelf);
+    let mut link = contents.first(shelf);
+    for spot in spots.iter().rev().filter(|spot| spot.shelf == shelf) {
+        if walk.next() != Some(spot.good) || link != Some(spot.good) {
+            return false;
         }
+        link = contents.next(spot.good);
     }
-    walk.next() == None && link == None && count_in(memory, shelf) == seen
-}
-
-fn position(spots: &[Spot], good: u64) -> Option<usize> {
-    for i in 0..spots.len() {
-        if spots[i].good == good {
-            return Some(i);
-        }
-    }
-    None
+    let count = spots.iter().filter(|spot| spot.shelf == shelf).count();
+    walk.next() == None && link == None && contents.count(shelf) == count as u64
 }
 
 // Takes the good from its shelf, or puts it on this one; then compares.
 fn turn(
     rt: &impl Abort,
-    memory: &mut [u64],
+    contents: &mut Contents<&mut [u64]>,
     spots: &mut Vec<Spot>,
     shelf: u64,
     good: u64,
 ) -> Result<(), Fail> {
-    let found = position(spots, good);
-    let mut contents = Contents { memory };
-    if let Some(i) = found
-        && i < spots.len()
-    {
+    if let Some(i) = spots.iter().position(|spot| spot.good == good) {
         let spot = spots.remove(i);
         assert!(rt; contents.shelf_of(good) == Some(spot.shelf));
         contents.remove(good);
         assert!(rt; contents.shelf_of(good) == None);
-        assert!(rt; agrees(contents.memory, spots, spot.shelf));
-        Ok(())
+        assert!(rt; agrees(contents, spots, spot.shelf));
     } else {
         assert!(rt; contents.shelf_of(good) == None);
         contents.add(shelf, good);
         spots.push(Spot { shelf, good })?;
         assert!(rt; contents.shelf_of(good) == Some(shelf));
         assert!(rt; contents.first(shelf) == Some(good));
-        assert!(rt; agrees(contents.memory, spots, shelf));
-        Ok(())
+        assert!(rt; agrees(contents, spots, shelf));
     }
+    Ok(())
 }
 
 fn turns(
@@ -75,14 +59,11 @@ fn turns(
     seed: u64,
 ) -> Result<(), Fail> {
     let shelves = [1u64, 2, 3, 511, 1023, 1024];
-    let mut random = seed;
-    for _ in 0..4000u64 {
-        random = random
-            .wrapping_mul(6364136223846793005)
-            .wrapping_add(1442695040888963407);
+    let mut contents = Contents { memory };
+    for random in Random::new(seed).take(4000) {
         let shelf = shelves[(random >> 61) as usize % 6];
         let good = 32768 - (random >> 32) % 40 * 800;
-        turn(rt, memory, spots, shelf, good)?;
+        turn(rt, &mut contents, spots, shelf, good)?;
     }
     Ok(())
 }
@@ -96,8 +77,9 @@ fn random_turns(rt: HostRuntime) -> Result<(), Fail> {
 
 // From a shelf of four goods goes the last, then the middle one, the first and the only one.
 fn orders(rt: &impl Abort, memory: &mut [u64], spots: &mut Vec<Spot>) -> Result<(), Fail> {
+    let mut contents = Contents { memory };
     for good in [1u64, 2, 3, 4, 1, 3, 4, 2] {
-        turn(rt, memory, spots, 7, good)?;
+        turn(rt, &mut contents, spots, 7, good)?;
     }
     Ok(())
 }
@@ -107,13 +89,12 @@ fn takes_from_each_end(rt: HostRuntime) -> Result<(), Fail> {
     let mut memory = [0u64; WORDS];
     let mut spots: Vec<Spot> = Vec::new(rt.alloc());
     orders(&rt, &mut memory, &mut spots)?;
-    assert!(rt; spots.len() == 0);
+    assert!(rt; spots.is_empty());
     Ok(())
 }
 
 // Tries to put the good on the shelf, and takes it away again; there is such a pair, or nothing is changed.
-fn tries(rt: &impl Abort, memory: &mut [u64], shelf: u64, good: u64, there: bool) {
-    let mut contents = Contents { memory };
+fn tries(rt: &impl Abort, contents: &mut Contents<&mut [u64]>, shelf: u64, good: u64, there: bool) {
     contents.add(shelf, good);
     assert!(rt; (contents.shelf_of(good) == Some(shelf)) == there);
     assert!(rt; contents.count(shelf) == there as u64);
@@ -124,15 +105,14 @@ fn tries(rt: &impl Abort, memory: &mut [u64], shelf: u64, good: u64, there: bool
 // The slots at the edges, as shelves and as goods.
 fn edges(rt: &impl Abort, memory: &mut [u64]) {
     let slots = [0, 1, 1024, 1025, 32768, 32769, u64::MAX];
+    let mut contents = Contents { memory };
     for shelf in slots {
         for good in slots {
-            let there = 0 < shelf && shelf <= 1024 && 0 < good && good <= 32768;
-            tries(rt, memory, shelf, good, there);
+            let there = (1..=1024).contains(&shelf) && (1..=32768).contains(&good);
+            tries(rt, &mut contents, shelf, good, there);
         }
     }
-    for word in memory.iter() {
-        assert!(rt; *word == 0);
-    }
+    assert!(rt; contents.memory.iter().all(|word| *word == 0));
 }
 
 #[test]
@@ -141,23 +121,21 @@ fn slots_at_the_edges(rt: HostRuntime) {
     edges(&rt, &mut memory);
 }
 
-// How many goods a walk gives, which ends on every memory.
-fn visits(memory: &[u64], shelf: u64) -> u64 {
-    let mut seen = 0u64;
-    for good in walk_in(memory, shelf) {
-        seen = seen.saturating_add(1);
-    }
-    seen
-}
-
 #[test]
 fn short_and_garbage(rt: HostRuntime) {
     let mut short = [5u64; 1027];
-    add_in(&mut short, 5, 1);
-    remove_in(&mut short, 1);
+    let mut contents = Contents {
+        memory: &mut short[..],
+    };
+    contents.add(5, 1);
+    contents.remove(1);
+    assert!(rt; contents.first(5) == None && contents.walk(5).count() == 0);
     assert!(rt; short == [5u64; 1027]);
-    assert!(rt; first_in(&short, 5) == None && visits(&short, 5) == 0);
     let garbage = [5u64; 1100];
-    assert!(rt; shelf_of_in(&garbage, 5) == Some(5) && next_in(&garbage, 5) == Some(5));
-    assert!(rt; visits(&garbage, 5) == 25 && count_in(&garbage, 5) == 25);
+    let contents = Contents {
+        memory: &garbage[..],
+    };
+    assert!(rt; contents.shelf_of(5) == Some(5) && contents.next(5) == Some(5));
+    // A walk ends on every memory.
+    assert!(rt; contents.walk(5).count() == 25 && contents.count(5) == 25);
 }

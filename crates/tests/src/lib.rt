@@ -8,4 +8,6 @@ mod index_tests;
 #[cfg(test)]
 mod loads_tests;
 #[cfg(test)]
+mod random;
+#[cfg(test)]
 mod rules_tests;

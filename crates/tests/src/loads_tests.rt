@@ -1,18 +1,22 @@
 // The loads beside a plain row of shelves that is gone through from end to end.
+use crate::random::Random;
 use loads::*;
+use std::cmp::Reverse;
 use std::process::Abort;
 use words::{read, write};
 
-#[derive(Clone, Copy)]
+#[derive(Clone, Copy, Default)]
 struct Shelf {
     there: bool,
     load: u64,
 }
 
-const NO_SHELF: Shelf = Shelf {
-    there: false,
-    load: 0,
-};
+enum Change {
+    Enter,
+    Leave,
+    TakeOne,
+    AddOne,
+}
 
 // Slots at the ends of the trees, neighbours in them, and what is no slot.
 const SLOTS: [u64; 13] = [
@@ -32,106 +36,90 @@ const SLOTS: [u64; 13] = [
 ];
 
 fn shelf_at(row: &[Shelf], slot: u64) -> Shelf {
-    let i = slot as usize;
-    if i < row.len() { row[i] } else { NO_SHELF }
+    row.get(slot as usize).copied().unwrap_or_default()
 }
 
-fn put_shelf(row: &mut [Shelf], slot: u64, shelf: Shelf) {
-    let i = slot as usize;
-    if 0 < i && i < row.len() {
-        row[i] = shelf;
+// The first shelf that is there and has the least key.
+fn first_least<K: Ord + Drop, F: Fn(&Shelf) -> K + Drop>(row: &[Shelf], key: F) -> Option<u64>
+    requires { F.IsAlwaysCallable key }
+{
+    row.iter()
+        .enumerate()
+        .filter(|(_, shelf)| shelf.there)
+        .min_by_key(|(_, shelf)| key(shelf))
+        .map(|(slot, _)| slot as u64)
+}
+
+// Half of the changes add one.
+fn change_of(random: u64) -> Change {
+    match (random >> 50) % 6 {
+        0 => Change::Enter,
+        1 => Change::Leave,
+        2 => Change::TakeOne,
+        _ => Change::AddOne,
     }
 }
 
-// The first shelf that is there and has the least load, or the greatest.
-fn best(row: &[Shelf], most: bool) -> Option<u64> {
-    let mut found = None;
-    let mut load = 0;
-    for i in 0..row.len() {
-        let shelf = row[i];
-        let better = if most {
-            load < shelf.load
-        } else {
-            shelf.load < load
-        };
-        if shelf.there && (found == None || better) {
-            found = Some(i as u64);
-            load = shelf.load;
+// One change of both.
+fn apply(change: Change, loads: &mut Loads<&mut [u64]>, row: &mut [Shelf], slot: u64) {
+    let before = shelf_at(row, slot);
+    let after = match change {
+        Change::Enter => {
+            loads.enter(slot);
+            Shelf {
+                there: true,
+                load: 0,
+            }
         }
-    }
-    found
-}
-
-// One change of both: 0 the shelf enters, 1 it leaves, 2 one less, else one more.
-fn change(memory: &mut [u64], row: &mut [Shelf], kind: u64, slot: u64) {
-    let shelf = shelf_at(row, slot);
-    match kind {
-        0 => {
-            enter_in(memory, slot);
-            put_shelf(
-                row,
-                slot,
-                Shelf {
-                    there: true,
-                    load: 0,
-                },
-            );
+        Change::Leave => {
+            loads.leave(slot);
+            Shelf::default()
         }
-        1 => {
-            leave_in(memory, slot);
-            put_shelf(row, slot, NO_SHELF);
+        Change::TakeOne => {
+            loads.take_one(slot);
+            Shelf {
+                load: before.load.saturating_sub(1),
+                ..before
+            }
         }
-        2 => {
-            take_one_in(memory, slot);
-            put_shelf(
-                row,
-                slot,
-                Shelf {
-                    there: shelf.there,
-                    load: shelf.load.saturating_sub(1),
-                },
-            );
+        Change::AddOne => {
+            loads.add_one(slot);
+            Shelf {
+                load: before.load.saturating_add(1),
+                ..before
+            }
         }
-        _ => {
-            add_one_in(memory, slot);
-            put_shelf(
-                row,
-                slot,
-                Shelf {
-                    there: shelf.there,
-                    load: shelf.load.saturating_add(1),
-                },
-            );
-        }
+    };
+    if slot != 0
+        && let Some(shelf) = row.get_mut(slot as usize)
+    {
+        *shelf = after;
     }
 }
 
 // Both give the same answers.
-fn agree(rt: &impl Abort, memory: &[u64], row: &[Shelf]) {
-    assert!(rt; emptiest_in(memory) == best(row, false));
-    assert!(rt; fullest_in(memory) == best(row, true));
-    for i in 0..13 {
-        assert_eq!(rt; load_of_in(memory, SLOTS[i]), shelf_at(row, SLOTS[i]).load);
+fn agree(rt: &impl Abort, loads: &Loads<&mut [u64]>, row: &[Shelf]) {
+    assert!(rt; loads.emptiest() == first_least(row, |shelf| shelf.load));
+    assert!(rt; loads.fullest() == first_least(row, |shelf| Reverse(shelf.load)));
+    for slot in SLOTS {
+        assert_eq!(rt; loads.load_of(slot), shelf_at(row, slot).load);
     }
 }
 
 // So many random changes, and the same answers after each.
-fn run(rt: &impl Abort, memory: &mut [u64], row: &mut [Shelf], turns: u64) {
-    let mut seed = 1u64;
-    for turn in 0..turns {
-        seed = seed
-            .wrapping_mul(6364136223846793005)
-            .wrapping_add(1442695040888963407);
-        let slot = SLOTS[((seed >> 40) % 13) as usize];
-        change(memory, row, (seed >> 50) % 6, slot);
-        agree(rt, memory, row);
+fn run(rt: &impl Abort, memory: &mut [u64], row: &mut [Shelf], turns: usize) {
+    let mut loads = Loads { memory };
+    for random in Random::new(1).take(turns) {
+        let slot = SLOTS[((random >> 40) % 13) as usize];
+        apply(change_of(random), &mut loads, row, slot);
+        agree(rt, &loads, row);
     }
 }
 
 #[test]
 fn beside_a_row(rt: HostRuntime) {
     let mut memory = [0u64; 5121];
-    let mut row = [NO_SHELF; 1025];
+    let mut row = [Shelf::default(); 1025];
     run(&rt, &mut memory, &mut row, 4000);
 }
 
@@ -139,7 +127,7 @@ fn beside_a_row(rt: HostRuntime) {
 fn by_methods(rt: HostRuntime) {
     let mut memory = [0u64; 5121];
     let mut loads = Loads {
-        memory: &mut memory,
+        memory: &mut memory[..],
     };
     assert!(rt; loads.emptiest() == None);
     loads.enter(7);
@@ -158,63 +146,60 @@ fn by_methods(rt: HostRuntime) {
     assert!(rt; loads.fullest() == Some(3));
 }
 
-fn all_zero(rt: &impl Abort, memory: &[u64]) {
-    for word in memory.iter() {
-        assert_eq!(rt; *word, 0);
-    }
-}
-
 #[test]
 fn no_slots(rt: HostRuntime) {
     let mut memory = [0u64; 5121];
-    enter_in(&mut memory, 0);
-    enter_in(&mut memory, 1025);
-    enter_in(&mut memory, 18446744073709551615);
-    add_one_in(&mut memory, 0);
-    add_one_in(&mut memory, 1025);
-    add_one_in(&mut memory, 18446744073709551615);
-    all_zero(&rt, &memory);
+    let mut loads = Loads {
+        memory: &mut memory[..],
+    };
+    for slot in [0, 1025, 18446744073709551615] {
+        loads.enter(slot);
+        loads.add_one(slot);
+    }
+    assert!(rt; loads.memory.iter().all(|word| *word == 0));
 }
 
 #[test]
 fn greatest_load(rt: HostRuntime) {
     let mut memory = [0u64; 5121];
-    enter_in(&mut memory, 7);
-    write(&mut memory, 7, 18446744073709551615);
-    add_one_in(&mut memory, 7);
-    assert_eq!(rt; load_of_in(&memory, 7), 18446744073709551615);
-    take_one_in(&mut memory, 7);
-    assert_eq!(rt; load_of_in(&memory, 7), 18446744073709551614);
+    let mut loads = Loads {
+        memory: &mut memory[..],
+    };
+    loads.enter(7);
+    write(loads.memory, 7, 18446744073709551615);
+    loads.add_one(7);
+    assert_eq!(rt; loads.load_of(7), 18446744073709551615);
+    loads.take_one(7);
+    assert_eq!(rt; loads.load_of(7), 18446744073709551614);
 }
 
 #[test]
 fn short_and_garbage(rt: HostRuntime) {
     let mut short = [9u64; 100];
-    enter_in(&mut short, 5);
-    enter_in(&mut short, 500);
-    assert!(rt; emptiest_in(&short) == None);
-    assert_eq!(rt; load_of_in(&short, 5), 0);
-    assert_eq!(rt; load_of_in(&short, 6), 9);
+    let mut loads = Loads {
+        memory: &mut short[..],
+    };
+    loads.enter(5);
+    loads.enter(500);
+    assert!(rt; loads.emptiest() == None);
+    assert_eq!(rt; loads.load_of(5), 0);
+    assert_eq!(rt; loads.load_of(6), 9);
     let mut garbage = [18446744073709551615u64; 5121];
-    assert!(rt; fullest_in(&garbage) == Some(18446744073709551615));
-    assert_eq!(rt; load_of_in(&garbage, 0), 0);
-    assert_eq!(rt; load_of_in(&garbage, 1025), 0);
-    enter_in(&mut garbage, 1);
-    assert!(rt; emptiest_in(&garbage) == Some(1));
-    assert_eq!(rt; read(&garbage, 2), 18446744073709551615);
+    let mut loads = Loads {
+        memory: &mut garbage[..],
+    };
+    assert!(rt; loads.fullest() == Some(18446744073709551615));
+    assert_eq!(rt; loads.load_of(0), 0);
+    assert_eq!(rt; loads.load_of(1025), 0);
+    loads.enter(1);
+    assert!(rt; loads.emptiest() == Some(1));
+    assert_eq!(rt; read(loads.memory, 2), 18446744073709551615);
 }
 
 #[test]
 fn least_of_a_row(rt: HostRuntime) {
-    assert!(rt; place(emptiest(&[])) == None);
-    assert!(rt; place(emptiest(&[5, 3, 9, 3])) == Some(1));
+    assert!(rt; emptiest(&[]) == None);
+    assert!(rt; emptiest(&[5, 3, 9, 3]) == Some(1));
     assert_eq!(rt; smaller_of(4, 9), 4);
     assert_eq!(rt; smaller_of(9, 4), 4);
-}
-
-fn place(reply: Reply) -> Option<u64> {
-    match reply {
-        Reply::At(i) => Some(i),
-        Reply::None => None,
-    }
 }
