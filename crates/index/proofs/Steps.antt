@@ -48,6 +48,8 @@ module _ (bits : ℕ) (at num : ℕ → ℕ) (n a l half p rest w : ℕ) (i : de
   pub descend_over : a ≤ l → child bits 0 0 ≡ w
   descend_over h = sym (descend_ends bits at num n (a - l) half p rest (omega arith)) ∙ i
 
+pub ruleset search_steps = (search_starts, descend_free, descend_held, descend_on, descend_over)
+
 -- the same of the way down to a leaf
 module _ (bits : ℕ) (at : ℕ → ℕ) (a l p w : ℕ) (i : leaf bits at (a - l) p ≡ w) where
   pub leaf_found : None ≡ some_slot (lower bits at p) → p ≡ w
@@ -61,3 +63,5 @@ module _ (bits : ℕ) (at : ℕ → ℕ) (a l p w : ℕ) (i : leaf bits at (a - 
   pub leaf_over : a ≤ l → p ≡ w
   unfolding leaf
   leaf_over h = let none : a - l ≡ 0 = omega arith in sym (ap (λ (x : ℕ). leaf bits at x p) none) ∙ i
+
+pub ruleset ways_down = (leaf_found, leaf_on, leaf_over)

@@ -206,6 +206,7 @@ impl<M: AsSlice<u64>, const BITS: u64> Index<M, BITS> {
     }
 
     // Where a search for the number ends.
+    #[tactic(auto, using(crate::proofs::Steps::search_steps))]
     fn locate(&self, number: u64) -> u64
         ensures { result ≡ locate_in BITS (M.items self.now.memory) number }
     {
@@ -242,6 +243,7 @@ impl<M: AsSlice<u64>, const BITS: u64> Index<M, BITS> {
     }
 
     // A link below the link, or itself, whose slot has no children.
+    #[tactic(auto, using(crate::proofs::Steps::ways_down))]
     fn leaf_of(&self, start: u64) -> u64
         ensures { result ≡ leaf BITS (slot_at BITS (M.items self.now.memory)) (levels BITS) start }
     {
@@ -275,7 +277,7 @@ impl<const BITS: u64> Index<&mut [u64], BITS> {
     }
 
     // Takes a number out, and its slot is free; nothing changes where it is not there.
-    #[tactic(auto, using(index_model::proofs::Tells::remove_tells), unfolding(index_model::specs::Model::find_at, index_model::specs::Model::remove_in))]
+    #[tactic(auto, unfolding(index_model::specs::Model::find_at, index_model::specs::Model::remove_in))]
     pub fn remove(&mut self, number: u64) -> Option<u64>
         ensures same { self.new.memory.ghost_name ≡ self.old.memory.ghost_name }
         ensures says { result ≡ some_slot (find_at BITS self.old.memory.now number) }
