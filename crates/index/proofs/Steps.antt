@@ -1,15 +1,10 @@
 -- What the code does, step by step, in the words of the model.
-use Rattle.std.proofs.Common.{◌≡◌, ◌≢◌, ℕ, suc, ◌+◌, ◌-◌, ◌*◌, ◌/◌, ◌%◌, ◌^◌, ◌<◌, ◌≤◌, true, false, Some, None, sym, ap, ◌∙◌, mod-eq_of_lt, one-mul, arith}
-use Rattle.std.proofs.lemmas.Nat.{pow_below}
+use Rattle.std.proofs.Common.{◌≡◌, ◌≢◌, ℕ, suc, ◌+◌, ◌-◌, ◌/◌, ◌%◌, ◌<◌, ◌≤◌, true, false, Some, None, sym, ap, ◌∙◌, arith}
 use Rattle.std.proofs.lemmas.Bool.Decides.{nat_tests}
 use Rattle.words.specs.Slots.{some_slot}
 use Rattle.words.proofs.Slots.{slot_none, slot_some}
 use Rattle.index_model.specs.Model.{span, levels, key, head, bit, left, descend, locate, child, rests, lower, leaf}
 use Rattle.index_model.proofs.Steps.{descend_rests, descend_goes, descend_ends, leaf_goes, leaf_here}
-
--- a shift of 1
-pub shifted : (k : ℕ) → k < 64 → (1 * 2 ^ k) % 18446744073709551616 ≡ 2 ^ k
-shifted k h = let small = pow_below k 64 h in mod-eq_of_lt (omega arith) ∙ one-mul (2 ^ k)
 
 one_more : (a l : ℕ) → l < a → a - l ≡ suc (a - (l + 1))
 one_more a l h = omega arith
