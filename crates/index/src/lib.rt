@@ -31,7 +31,7 @@ fn width<const BITS: u64>() -> u64
 }
 
 // How many heads there are.
-#[tactic(auto, using(crate::proofs::Steps::shifted), unfolding(index_model::specs::Model::heads))]
+#[tactic(auto, unfolding(index_model::specs::Model::heads))]
 fn heads<const BITS: u64>() -> u64
     ensures is { result ≡ heads BITS }
     ensures some { 0 < result }
@@ -41,7 +41,7 @@ fn heads<const BITS: u64>() -> u64
 }
 
 // How many keys share a head.
-#[tactic(auto, using(crate::proofs::Steps::shifted), unfolding(index_model::specs::Model::span))]
+#[tactic(auto, unfolding(index_model::specs::Model::span))]
 fn span<const BITS: u64>() -> u64
     ensures is { result ≡ span BITS }
     ensures some { 0 < result }
@@ -106,6 +106,7 @@ fn child<const BITS: u64>(slot: u64, side: u64) -> u64
     heads::<BITS>() + 2 * slot + side
 }
 
+// The index in these words: any that lend themselves as a slice are read, and those lent by a `&mut` are changed too.
 #[derive(Drop)]
 pub struct Index<M, const BITS: u64> {
     pub memory: M,
@@ -149,7 +150,7 @@ impl<M: AsSlice<u64>, const BITS: u64> Index<M, BITS> {
         self.slot_at(self.locate(number))
     }
 
-    // What is no slot counts as none, 0.
+    // The slot, or 0 for what is no slot: 0 is none in the memory.
     #[tactic(auto, unfolding(index_model::specs::Model::slot_of))]
     fn slot_of(&self, value: u64) -> u64
         ensures is { result ≡ slot_of BITS (M.items self.now.memory) value }
@@ -158,7 +159,7 @@ impl<M: AsSlice<u64>, const BITS: u64> Index<M, BITS> {
         if value <= self.capacity() { value } else { 0 }
     }
 
-    // The slot that hangs at a link, or 0: a link is written as it is read, and 0 is none in the memory.
+    // The slot that hangs at a link, or 0: it is written back into a link, where 0 is none.
     #[tactic(auto, unfolding(index_model::specs::Model::slot_at, index_model::specs::Model::slot_of))]
     fn slot_or_zero(&self, link: u64) -> u64
         ensures is { result ≡ slot_at BITS (M.items self.now.memory) link }
@@ -205,7 +206,8 @@ impl<M: AsSlice<u64>, const BITS: u64> Index<M, BITS> {
         self.free().or(untaken)
     }
 
-    // Where a search for the number ends.
+    // Where a search for the number ends. The range only bounds it.
+    #[tactic(auto, using(crate::proofs::Steps::search_steps))]
     fn locate(&self, number: u64) -> u64
         ensures { result ≡ locate_in BITS (M.items self.now.memory) number }
     {
@@ -232,6 +234,7 @@ impl<M: AsSlice<u64>, const BITS: u64> Index<M, BITS> {
     fn lower(&self, place: u64) -> Option<u64>
         ensures { result ≡ some_slot (lower BITS (slot_at BITS (M.items self.now.memory)) place) }
     {
+        // Not a `find` over both links: the search proves nothing of a closure in generic code.
         let slot = self.slot_or_zero(place);
         let left = child::<BITS>(slot, 0);
         if self.slot_at(left).is_some() {
@@ -241,7 +244,8 @@ impl<M: AsSlice<u64>, const BITS: u64> Index<M, BITS> {
         self.slot_at(right).is_some().then_some(right)
     }
 
-    // A link below the link, or itself, whose slot has no children.
+    // A link below the link, or itself, whose slot has no children. The range only bounds the way.
+    #[tactic(auto, using(crate::proofs::Steps::ways_down))]
     fn leaf_of(&self, start: u64) -> u64
         ensures { result ≡ leaf BITS (slot_at BITS (M.items self.now.memory)) (levels BITS) start }
     {
@@ -275,7 +279,7 @@ impl<const BITS: u64> Index<&mut [u64], BITS> {
     }
 
     // Takes a number out, and its slot is free; nothing changes where it is not there.
-    #[tactic(auto, using(index_model::proofs::Tells::remove_tells), unfolding(index_model::specs::Model::find_at, index_model::specs::Model::remove_in))]
+    #[tactic(auto, unfolding(index_model::specs::Model::find_at, index_model::specs::Model::remove_in))]
     pub fn remove(&mut self, number: u64) -> Option<u64>
         ensures same { self.new.memory.ghost_name ≡ self.old.memory.ghost_name }
         ensures says { result ≡ some_slot (find_at BITS self.old.memory.now number) }
@@ -375,6 +379,7 @@ impl<const BITS: u64> Index<&mut [u64], BITS> {
         ensures after { self.new.memory.now ≡ give_slot BITS self.old.memory.now slot }
     {
         let count = self.count();
+        // 0 ends the list.
         let free = self.free().unwrap_or(0);
         self.name_slot(slot, free);
         write(self.memory, FREE, slot);
