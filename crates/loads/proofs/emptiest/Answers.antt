@@ -5,12 +5,6 @@ use Rattle.std.proofs.lemmas.Iterator.Search.{position_from_yields_List}
 use Rattle.std.proofs.lemmas.Iterator.Consumers.{min_from_yields_List}
 use Rattle.loads.proofs.emptiest.Goals as goal
 
-pub returns-in_err-least : goal.returns-in_err-least
-returns-in_err-least c =
-    let min = min_from_yields_List _ c.min.result c.min.ensures.ran (YieldsList-from_slice c.args.loads.now cc) in
-    let none = rw c.in_err-least.was at min in
-    rw (← none) c.from_residual.ensures
-
 pub returns : goal.returns
 returns c =
     let min = min_from_yields_List _ c.min.result c.min.ensures.ran (YieldsList-from_slice c.args.loads.now cc) in
