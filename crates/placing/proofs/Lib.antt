@@ -1,3 +1,2 @@
 -- The crate's proofs.
 mod Steps
-mod Taking

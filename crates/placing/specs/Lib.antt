@@ -1,3 +1,4 @@
 -- The crate's definitions.
 pub mod Acts
+pub mod Turns
 pub mod Entry

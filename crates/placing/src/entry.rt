@@ -1,76 +1,92 @@
-// One step of the machine on plain numbers: the kind of what is told, its number, and a lent row for the answer.
-ghost use Rattle.std.specs.Prelude.{◌≡◌, ◌≤◌, ◌&&◌, length, ◌==◌, nat_le};
+// One step of the machine in a lent memory; also on plain numbers, with a lent row for the answer.
+ghost use Rattle.std.specs.Prelude.{◌≡◌, ◌≤◌, length};
+ghost use Rattle.machine.specs.Machine.{turn_of};
+ghost use Rattle.placing_model.specs.Parts.{parts};
 ghost use Rattle.placing.specs.Acts.{act_of, event_of_request};
-ghost use Rattle.placing.specs.Entry.{event_of, ActTold, StepSays, step_fits, ActsIn};
+ghost use Rattle.placing.specs.Turns.{state_in};
+ghost use Rattle.placing.specs.Entry.{Asks, row_after, StepSays, step_fits, ActsIn};
 
-use crate::acts::{Act, Command, Request, Told};
-use crate::regions::WORDS;
-use crate::turns::react;
+use crate::acts::{Act, Command, Kind, Request};
+use crate::memory::{GOODS_WORDS, LOADS_WORDS, Machine, SHELVES_WORDS, WORDS};
+
+// The kind that asks to go on.
+const GO_ON: u64 = 5;
 
 // What the kind and the number ask for.
-fn request_of(kind: u64, number: u64) -> Request
-    ensures { event_of_request result ≡ event_of kind number }
+#[tactic(auto, unfolding(crate::specs::Entry::event_of))]
+fn request_of(kind: u64, number: u64) -> Option<Request>
+    ensures { Asks kind number result }
 {
-    match kind {
-        0 => Request::Carry(Command::GoodComes(number)),
-        1 => Request::Carry(Command::GoodGoes(number)),
-        2 => Request::Carry(Command::ShelfComes(number)),
-        3 => Request::Carry(Command::ShelfGoes(number)),
-        4 => Request::Carry(Command::WhereIs(number)),
-        _ => Request::GoOn,
+    if kind == GO_ON {
+        return Some(Request::GoOn);
     }
+    let kind = Kind::try_from(u8::try_from(kind).ok()?).ok()?;
+    Some(Request::Carry(Command::new(kind, number)))
 }
 
-// Writes what was done into the row.
-fn tell(act: Act, out: &mut [u64]) -> Told
+// Writes what was put into the row.
+fn tell(act: Act, out: &mut [u64])
     requires { 2 ≤ length out.old }
-    ensures { ActTold (act_of act) result out.old out.new }
+    ensures { out.new ≡ row_after (act_of act) out.old }
 {
-    match act {
-        Act::Puts(spot) => {
-            out[0] = spot.good;
-            out[1] = spot.shelf;
-            Told::Put(2)
-        }
-        Act::Done => Told::Done,
-        Act::Refused(why) => Told::No(why.number()),
+    if let Act::Puts(spot) = act {
+        out[0] = spot.good;
+        out[1] = spot.shelf;
     }
-}
-
-// Whether the memory has the machine's own length.
-fn is_whole(memory: &[u64]) -> bool
-    ensures { result ≡ (length memory.now == 239635) }
-{
-    memory.len() == WORDS
-}
-
-// Whether a step can be taken.
-fn fits(memory: &[u64], kind: u64, out: &[u64]) -> bool
-    ensures { result ≡ (length memory.now == 239635 && (nat_le kind 5 && nat_le 2 (length out.now))) }
-{
-    is_whole(memory) && kind <= 5 && out.len() >= 2
 }
 
 // One step: kind 0 a good comes, 1 a good goes, 2 a shelf comes, 3 a shelf goes, 4 where is a good, 5 go on.
-// Told `No(0)`, and nothing changed, where the memory has another length, the kind is above 5 or the row is too short.
-pub fn step(memory: &mut [u64], kind: u64, number: u64, out: &mut [u64]) -> Told
+// None, and nothing changed, where the memory has another length, the kind is above 5 or the row is too short.
+pub fn step(memory: &mut [u64], kind: u64, number: u64, out: &mut [u64]) -> Option<Act>
     ensures { StepSays memory.old kind number out.old (step_fits memory.old kind out.old) result memory.new out.new }
 {
-    if !fits(memory, kind, out) {
-        return Told::No(0);
+    let request = request_of(kind, number)?;
+    if out.len() < 2 {
+        return None;
     }
-    let act = react(memory, request_of(kind, number));
-    tell(act, out)
+    let act = act(memory, request)?;
+    tell(act, out);
+    Some(act)
+}
+
+// One turn of the machine on the words of its registers and parts.
+// Apart from `act`, since of parts of one slice that stand in one struct the proof does not know what the slice ends as.
+fn react(
+    phase: &mut u64,
+    subject: &mut u64,
+    goods: &mut [u64],
+    shelves: &mut [u64],
+    loads: &mut [u64],
+    contents: &mut [u64],
+    request: Request,
+) -> Act
+    ensures left { state_in phase.new subject.new goods.new shelves.new loads.new contents.new ≡ (turn_of parts (state_in phase.old subject.old goods.old shelves.old loads.old contents.old) (event_of_request request)).state }
+    ensures says { act_of result ≡ (turn_of parts (state_in phase.old subject.old goods.old shelves.old loads.old contents.old) (event_of_request request)).act }
+{
+    let mut machine = Machine {
+        phase,
+        subject,
+        goods,
+        shelves,
+        loads,
+        contents,
+    };
+    machine.react(request)
 }
 
 // One act of the machine for a request; none, and nothing changed, where the memory has another length.
 pub fn act(memory: &mut [u64], request: Request) -> Option<Act>
     ensures { ActsIn memory.old (event_of_request request) result memory.new }
 {
-    if !is_whole(memory) {
+    if memory.len() != WORDS {
         return None;
     }
-    // The proof reads off this call that the number has 64 bits.
+    // The proof reads off this call that the number has 64 bits: of a number within an enum it knows no range.
     let _number = request.number();
-    Some(react(memory, request))
+    let (phase, rest) = memory.split_first_mut()?;
+    let (subject, rest) = rest.split_first_mut()?;
+    let (goods, rest) = rest.split_at_mut(GOODS_WORDS);
+    let (shelves, rest) = rest.split_at_mut(SHELVES_WORDS);
+    let (loads, contents) = rest.split_at_mut(LOADS_WORDS);
+    Some(react(phase, subject, goods, shelves, loads, contents, request))
 }

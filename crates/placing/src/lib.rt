@@ -2,10 +2,11 @@
 #![tactic(auto)]
 
 pub mod acts;
+mod changes;
 mod entry;
-mod regions;
+mod memory;
 mod turns;
 
-pub use acts::{Act, Command, Refusal, Request, Spot, Told};
+pub use acts::{Act, Command, Kind, Refusal, Request, Spot, UnknownKind};
 pub use entry::{act, step};
-pub use regions::WORDS;
+pub use memory::WORDS;

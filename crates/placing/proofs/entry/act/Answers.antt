@@ -1,14 +1,14 @@
 -- An act is that of the machine's step.
-use Rattle.std.proofs.Common.{◌≡◌, length, sym, refl, arith}
-use Rattle.std.proofs.lemmas.Bool.{eqb-true, eqb-false}
-use Rattle.placing.proofs.Steps.{own_takes}
+use Rattle.std.proofs.Common.{arith}
+use Rattle.placing.proofs.Steps.{acts_in}
 use Rattle.placing.proofs.entry.act.Goals as goal
 
-pub returns-then-not-is_whole : goal.returns-then-not-is_whole
-returns-then-not-is_whole c = (eqb-false _ _ (sym c.if-not-is_whole.ensures), refl)
+pub split_at_mut-shelves-requires : goal.split_at_mut-shelves-requires
+split_at_mut-shelves-requires c = omega (arith, c.in_ok-memory.ensures.cases, c.in_ok-rest.ensures.cases, c.split_at_mut-goods.ensures.back_len)
 
 pub returns : goal.returns
 returns c =
-    let e = c.number-number.ensures in
-    let long : length c.args.memory.now ≡ 239635 = eqb-true _ _ (sym c.if-not-is_whole.ensures) in
-    (long, own_takes _ _ c.react.result _ long (omega arith) (omega arith) c.react.ensures)
+    acts_in _ _ _ _ _ _ _ _ _ _ _ _ _ _ _ _ _ _ _ c.in_ok-memory.ensures.cases.0 c.in_ok-rest.ensures.cases.0 c.split_at_mut-goods.ensures.value
+    c.split_at_mut-shelves.ensures.value c.split_at_mut-loads.ensures.value (omega arith) c.split_at_mut-goods.ensures.front_len
+    c.split_at_mut-shelves.ensures.front_len c.split_at_mut-loads.ensures.front_len (omega (arith, c.number-number.ensures)) c.react.ensures.left
+    c.react.ensures.says

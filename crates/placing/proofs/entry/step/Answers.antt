@@ -1,14 +1,16 @@
 -- A step that fits is the machine's; one that does not changes nothing.
-use Rattle.std.proofs.Common.{◌≡◌, length, sym, arith}
-use Rattle.std.proofs.lemmas.Bool.{and_parts, eqb-true}
+use Rattle.std.proofs.Common.{refl, arith}
 use Rattle.placing.proofs.Steps.{step_refused, step_taken}
 use Rattle.placing.proofs.entry.step.Goals as goal
 
-pub returns-then-not-fits : goal.returns-then-not-fits
-returns-then-not-fits c = step_refused _ _ _ _ (sym c.if-not-fits.ensures)
+pub returns-in_err-request : goal.returns-in_err-request
+returns-in_err-request c = let h = c.in_err-request.ensures in step_refused _ _ _ _ _ _ c.from_residual.ensures refl (λ _ i _. omega arith)
+
+pub returns-then-out-lt2 : goal.returns-then-out-lt2
+returns-then-out-lt2 c = step_refused _ _ _ _ _ _ refl refl (λ _ _ h. omega arith)
+
+pub returns-in_err-act : goal.returns-in_err-act
+returns-in_err-act c = let h = c.in_err-act.ensures in step_refused _ _ _ _ _ _ c.from_residual-in_err-act.ensures h.1 (λ l _ _. h.0 l)
 
 pub returns : goal.returns
-returns c =
-    let fit = sym c.if-not-fits.ensures in
-    let long : length c.args.memory.now ≡ 239635 = eqb-true _ _ (and_parts _ _ fit).0 in
-    step_taken _ _ _ _ _ _ c.react-act.result _ _ fit (omega arith) long (omega arith) c.request_of.ensures c.react-act.ensures c.tell.ensures
+returns c = let h = c.in_ok-request.ensures in let k = c.in_ok-act.ensures in step_taken _ _ _ _ _ _ _ _ k.0 h.0 (omega arith) h.1 k.1 c.tell.ensures

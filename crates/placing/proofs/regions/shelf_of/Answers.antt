@@ -1,8 +1,0 @@
--- What the search leaves open of `shelf_of`.
-use Rattle.words.specs.Parts.{cuts, part}
-use Rattle.placing_model.specs.Memory.{cut}
-use Rattle.placing.proofs.regions.shelf_of.Goals as goal
-
-pub returns : goal.returns
-unfolding cut cuts part
-returns c = c.shelf_of_in.ensures
