@@ -1,6 +1,5 @@
 // A picture of the goods carried at each shelf that came or went, with one line for each rule.
 use crate::contest::Contest;
-use crate::table::name;
 use std::alloc::{AllocError, Global};
 
 // Where the lines are drawn, in pixels.
@@ -35,7 +34,7 @@ pub fn picture(heap: Global, contests: &[Contest]) -> Result<String, AllocError>
             colour(place),
             2,
         )?;
-        legend(heap, &mut text, name(contest.rule), colour(place), place)?;
+        legend(heap, &mut text, contest.rule, colour(place), place)?;
     }
     if let Some(first) = contests.first() {
         curve(
