@@ -1,56 +1,85 @@
 -- The least and the greatest of a function over a list, and by how much they differ.
-use Rattle.std.proofs.Common.{◌≡◌, ℕ, suc, ◌+◌, ◌-◌, ◌<◌, ◌≤◌, min, max, true, eqb, leb, List, [], ◌∷◌, length, get_or, sym, ap, ◌∙◌, arith}
-use Rattle.std.specs.List.{AllByRecursion as All}
+use Rattle.std.proofs.Common.{◌≡◌, ℕ, ◌+◌, ◌-◌, ◌≤◌, min, max, Bool, true, ◌&&◌, eqb, leb, List, [], ◌∷◌, map, fold, Option, refl, ap, arith}
+use Rattle.std.specs.Option.{unwrap_or}
+use Rattle.std.specs.List.{reduce, AllByRecursion as All}
 use Rattle.std.proofs.lemmas.Bool.Decides.{nat_tests}
-use Rattle.words.proofs.Cases.{by_order, by_same}
-use Rattle.hall.specs.House.{any, every}
-use Rattle.hall.proofs.Lists.{all_every}
+use Rattle.hall.specs.House.{or, any, every, none_of}
+use Rattle.hall.proofs.Lists.{all_every, all_weak}
 use Rattle.hall.proofs.Sets.{any_has, any_from}
-use Rattle.assignments.proofs.Counts.{has_at}
 
--- over the first i of the list, the function lies from l to g, and it takes both values somewhere
-pub record Bounds (f : ℕ → ℕ) (ks : List ℕ) (i l g : ℕ) : Type 0 where
+-- the function takes the value g at the start or over the list, and none greater
+record Top (f : ℕ → ℕ) (m : ℕ) (ks : List ℕ) (g : ℕ) : Type 0 where
+  start : m ≤ g
+  above : All (λ k. f k ≤ g) ks
+  taken : or (eqb m g) (any (λ k. eqb (f k) g) ks) ≡ true
+
+-- the same of the least
+record Bottom (f : ℕ → ℕ) (m : ℕ) (ks : List ℕ) (l : ℕ) : Type 0 where
+  start : l ≤ m
+  below : All (λ k. l ≤ f k) ks
+  taken : or (eqb m l) (any (λ k. eqb (f k) l) ks) ≡ true
+
+top : (f : ℕ → ℕ) (m : ℕ) (ks : List ℕ) → Top f m ks (fold max m (map f ks))
+unfolding any
+top f m [] = record { start = omega arith; above = tt; taken = grind (arith, nat_tests) }
+top f m (k ∷ ks) =
+    let ih = top f (max m (f k)) ks in
+    record { start = omega (arith, ih.start); above = (omega (arith, ih.start), ih.above); taken = grind (arith, nat_tests, ih.taken) }
+
+bottom : (f : ℕ → ℕ) (m : ℕ) (ks : List ℕ) → Bottom f m ks (fold min m (map f ks))
+unfolding any
+bottom f m [] = record { start = omega arith; below = tt; taken = grind (arith, nat_tests) }
+bottom f m (k ∷ ks) =
+    let ih = bottom f (min m (f k)) ks in
+    record { start = omega (arith, ih.start); below = (omega (arith, ih.start), ih.below); taken = grind (arith, nat_tests, ih.taken) }
+
+-- over the list the function lies from l to g, and takes both values
+pub record Bounds (f : ℕ → ℕ) (ks : List ℕ) (l g : ℕ) : Type 0 where
   pub order : l ≤ g
   pub low : any (λ k. eqb (f k) l) ks ≡ true
   pub high : any (λ k. eqb (f k) g) ks ≡ true
-  pub within : (m : ℕ) → m < i → (l ≤ f (get_or ks m 0)) × (f (get_or ks m 0) ≤ g)
+  pub from : All (λ k. l ≤ f k) ks
+  pub to : All (λ k. f k ≤ g) ks
 
-all_places : (P : ℕ → Type 0) (ks : List ℕ) → ((m : ℕ) → m < length ks → P (get_or ks m 0)) → All P ks
-all_places P [] h = tt
-all_places P (k ∷ ks) h = (h 0 (omega arith), all_places P ks (λ m lt. h (suc m) (omega arith)))
+-- what `max` and `min` give of a list's values
+bounded : (f : ℕ → ℕ) (k : ℕ) (ks : List ℕ) → Bounds f (k ∷ ks) (fold min (f k) (map f ks)) (fold max (f k) (map f ks))
+unfolding any
+bounded f k ks =
+    let t = top f (f k) ks in
+    let b = bottom f (f k) ks in
+    record { order = omega (arith, t.start, b.start); low = b.taken; high = t.taken; from = (b.start, b.below); to = (t.start, t.above) }
 
-taken : (f : ℕ → ℕ) (ks : List ℕ) (i n : ℕ) → i < length ks → f (get_or ks i 0) ≡ n → any (λ k. eqb (f k) n) ks ≡ true
-taken f ks i n lt e = any_from (λ k. eqb (f k) n) ks (get_or ks i 0) (has_at ks i lt) (grind (arith, nat_tests))
-
-same_taken : (f : ℕ → ℕ) (ks : List ℕ) (m n : ℕ) → m ≡ n → any (λ k. eqb (f k) m) ks ≡ true → any (λ k. eqb (f k) n) ks ≡ true
-same_taken f ks m n e h = ap (λ x. any (λ k. eqb (f k) x) ks) (sym e) ∙ h
-
-module _ (f : ℕ → ℕ) (ks : List ℕ) where
-  pub bounds_first : (l : ℕ) → 0 < length ks → l ≡ f (get_or ks 0 0) → Bounds f ks 0 l l
-  bounds_first l lt e = record { order = omega arith; low = taken f ks 0 l lt (sym e); high = taken f ks 0 l lt (sym e); within = λ m h. absurd (omega arith) }
-
-  pub bounds_more : (i l g n l' g' : ℕ) → i < length ks → Bounds f ks i l g → n ≡ f (get_or ks i 0) → l' ≡ min l n → g' ≡ max g n → Bounds f ks (i + 1) l' g'
-  bounds_more i l g n l' g' lt b e el eg = record {
-    order = let o = b.order in omega arith;
-    low = by_order l n (λ h. same_taken f ks l l' (omega arith) b.low) (λ h. taken f ks i l' lt (omega arith));
-    high = by_order n g (λ h. same_taken f ks g g' (omega arith) b.high) (λ h. taken f ks i g' lt (omega arith));
-    within = λ m h. by_same m i (λ q. here m q) (λ ne. let w = b.within m (omega arith) in (omega arith, omega arith));
-  }
+module _ (f : ℕ → ℕ) (ks : List ℕ) (l g : ℕ) (b : Bounds f ks l g) where
+  bounds_all : every (λ k. every (λ j. leb (f k) (f j + (g - l))) ks) ks ≡ true
+  bounds_all =
+      all_every _ ks (all_weak (λ k. f k ≤ g) _ ks (λ k hk. all_every _ ks (all_weak (λ j. l ≤ f j) _ ks (λ j hj. within k j hk hj) b.from)) b.to)
     where
-      here : (m : ℕ) → m ≡ i → (l' ≤ f (get_or ks m 0)) × (f (get_or ks m 0) ≤ g')
-      here m q = let same = ap (λ x. f (get_or ks x 0)) q in (omega arith, omega arith)
+      within : (k j : ℕ) → f k ≤ g → l ≤ f j → leb (f k) (f j + (g - l)) ≡ true
+      within k j hk hj = let le : f k ≤ f j + (g - l) = omega arith in grind (arith, nat_tests)
 
-  pub bounds_all : (l g : ℕ) → Bounds f ks (length ks) l g → every (λ k. every (λ j. leb (f k) (f j + (g - l))) ks) ks ≡ true
-  bounds_all l g b =
-      all_every _ ks (all_places _ ks (λ m hm. all_every _ ks (all_places _ ks (λ n hn.
-      let u = b.within m hm in let v = b.within n hn in let le : f (get_or ks m 0) ≤ f (get_or ks n 0) + (g - l) = omega arith in grind (arith, nat_tests)))))
-
-  pub bounds_reached : (l g : ℕ) → Bounds f ks (length ks) l g → any (λ k. any (λ j. eqb (f k) (f j + (g - l))) ks) ks ≡ true
-  bounds_reached l g b =
+  bounds_reached : any (λ k. any (λ j. eqb (f k) (f j + (g - l))) ks) ks ≡ true
+  bounds_reached =
       let low = any_has (λ k. eqb (f k) l) ks b.low in
       let high = any_has (λ k. eqb (f k) g) ks b.high in
       any_from (λ k. any (λ j. eqb (f k) (f j + (g - l))) ks) ks high.0 high.1
-      (any_from (λ j. eqb (f high.0) (f j + (g - l))) ks low.0 low.1 (apart (f low.0) (f high.0) l g b.order low.2 high.2))
+      (any_from (λ j. eqb (f high.0) (f j + (g - l))) ks low.0 low.1 (apart (f low.0) (f high.0) b.order low.2 high.2))
     where
-      apart : (a b l g : ℕ) → l ≤ g → eqb a l ≡ true → eqb b g ≡ true → eqb b (a + (g - l)) ≡ true
-      apart a b l g le ea eb = grind (arith, nat_tests)
+      apart : (x y : ℕ) → l ≤ g → eqb x l ≡ true → eqb y g ≡ true → eqb y (x + (g - l)) ≡ true
+      apart x y le ex ey = grind (arith, nat_tests)
+
+-- the difference of the two, 0 where there are none, is by how much the values differ
+pub record Differ (f : ℕ → ℕ) (ks : List ℕ) (l g : ℕ) : Type 0 where
+  pub order : l ≤ g
+  pub bound : every (λ k. every (λ j. leb (f k) (f j + (g - l))) ks) ks ≡ true
+  pub tight : or (any (λ k. any (λ j. eqb (f k) (f j + (g - l))) ks) ks) (none_of ks && eqb (g - l) 0) ≡ true
+
+or_first : (a b : Bool) → a ≡ true → or a b ≡ true
+or_first a b e = ap (λ x. or x b) e
+
+pub differ : (f : ℕ → ℕ) (ks : List ℕ) (least greatest : Option ℕ) → least ≡ reduce min (map f ks) → greatest ≡ reduce max (map f ks) →
+    Differ f ks (unwrap_or least 0) (unwrap_or greatest 0)
+unfolding any every none_of
+differ f [] least greatest el eg = rw (el, eg) (record { order = omega arith; bound = refl; tight = refl })
+differ f (k ∷ ks) least greatest el eg =
+    let b = bounded f k ks in
+    rw (el, eg) (record { order = b.order; bound = bounds_all f (k ∷ ks) _ _ b; tight = or_first _ _ (bounds_reached f (k ∷ ks) _ _ b) })

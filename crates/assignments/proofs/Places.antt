@@ -1,6 +1,10 @@
 -- A good's place in an ascending list, and what an edit at that place makes of the list.
-use Rattle.std.proofs.Common.{◌≡◌, ℕ, zero, suc, ◌<◌, ◌≤◌, true, ◌&&◌, eqb, ◌≢◌, List, [], ◌∷◌, length, get_or, set, sym, refl, ap, ◌∙◌, subst, arith}
+use Rattle.std.proofs.Common.{◌≡◌, ℕ, zero, suc, ◌<◌, ◌≤◌, true, ◌&&◌, eqb, ◌≢◌, List, [], ◌∷◌, length, get_or, set, Ok, Err, Result, MatchResult, sym, refl, ap, ◌∙◌, arith}
 use Rattle.std.specs.List.{insert, remove}
+use Rattle.std.specs.List.Sorted.{IsSearchInRange, IsBinarySearchResult, IsNonDecreasingBy}
+use Rattle.std.specs.Ordering.{nat_cmp, ordering_index}
+use Rattle.std.proofs.lemmas.Cmp.{ranked}
+use Rattle.std.proofs.lemmas.List.Sorted.{IsNonDecreasingBy-from_default}
 use Rattle.std.proofs.lemmas.Bool.Decides.{nat_tests}
 use Rattle.std.proofs.lemmas.Bool.{eqb-true}
 use Rattle.words.proofs.Cases.{by_test}
@@ -15,13 +19,42 @@ above_at g [] j h lt = omega arith
 above_at g (p ∷ ps) zero h lt = grind (arith, nat_tests)
 above_at g (p ∷ ps) (suc j) h lt = above_at g ps j (grind arith) (omega arith)
 
--- a later good is not smaller
-pub rises : (ps : List Spot) (i j : ℕ) → ascends ps ≡ true → i ≤ j → j < length ps → (get_or ps i zeros).good ≤ (get_or ps j zeros).good
-rises [] i j h le lt = omega arith
-rises (p ∷ ps) zero zero h le lt = omega arith
-rises (p ∷ ps) zero (suc j) h le lt = let a = above_at p.good ps j (head_above p ps h) (omega arith) in omega arith
-rises (p ∷ ps) (suc i) zero h le lt = omega arith
-rises (p ∷ ps) (suc i) (suc j) h le lt = rises ps i j (tail_ascends p ps h) (omega arith) (omega arith)
+-- a later good is greater
+climbs : (ps : List Spot) (i j : ℕ) → ascends ps ≡ true → i < j → j < length ps → (get_or ps i zeros).good < (get_or ps j zeros).good
+climbs [] i j h le lt = omega arith
+climbs (p ∷ ps) i zero h le lt = omega arith
+climbs (p ∷ ps) zero (suc j) h le lt = above_at p.good ps j (head_above p ps h) (omega arith)
+climbs (p ∷ ps) (suc i) (suc j) h le lt = climbs ps i j (tail_ascends p ps h) (omega arith) (omega arith)
+
+-- a binary search by the goods ends at the good, or where it would stand
+module _ (ps : List Spot) (up : ascends ps ≡ true) (g : ℕ) where
+  answers_rise : IsNonDecreasingBy (λ p. ordering_index (nat_cmp p.good g)) ps
+  answers_rise = IsNonDecreasingBy-from_default (λ p. ordering_index (nat_cmp p.good g)) ps zeros (λ i j le lt.
+      let rise : (get_or ps i zeros).good ≤ (get_or ps j zeros).good = grind (arith, climbs ps i j up, λ (same : i ≡ j). ap (λ k. (get_or ps k zeros).good) same)
+      in grind (arith, nat_tests))
+
+  pub searched : (r : Result ℕ ℕ) → IsSearchInRange r (length ps) → IsBinarySearchResult (λ p. nat_cmp p.good g) ps r → MatchResult r (λ i. Here g ps i) (λ i. Gap g ps i)
+  searched (Ok i) lt equal =
+      let same : (get_or ps i zeros).good ≡ g = ranked _ g _ (sym (equal zeros)) in
+      record {
+        place = record {
+          within = omega arith;
+          low = λ k h. let up = climbs ps k i up h lt in omega arith;
+          high = λ k le h. grind (arith, climbs ps i k up, λ (q : i ≡ k). ap (λ k. (get_or ps k zeros).good) q);
+        };
+        inside = lt;
+        same = same;
+      }
+  searched (Err i) le parted =
+      let split = parted answers_rise in
+      record {
+        place = record {
+          within = le;
+          low = λ k h. ranked _ g _ (sym (split.0 k zeros (omega arith) h));
+          high = λ k h lt. let greater : g < (get_or ps k zeros).good = ranked _ g _ (sym (split.1 k zeros h lt)) in omega arith;
+        };
+        other = λ h. let greater : g < (get_or ps i zeros).good = ranked _ g _ (sym (split.1 i zeros (omega arith) h)) in omega arith;
+      }
 
 -- the rest of a list, without its first
 rest : (g : ℕ) (p : Spot) (ps : List Spot) (i : ℕ) → Place g (p ∷ ps) (suc i) → Place g ps i
@@ -125,10 +158,3 @@ shelf_removed (p ∷ ps) (suc i) g h at lt e k =
 -- a good that isn't there is not missed
 pub without : (ps : List Spot) (g : ℕ) → shelf_in ps g ≡ [] → (k : ℕ) → shelf_in ps k ≡ pick (eqb k g) [] (shelf_in ps k)
 without ps g none k = by_test (eqb k g) (λ q. rw q (ap (shelf_in ps) (eqb-true k g q) ∙ none)) (λ q. rw q refl)
-
--- the same of an equal list
-pub here_in : (xs ys : List Spot) (g i : ℕ) → xs ≡ ys → Here g xs i → Here g ys i
-here_in xs ys g i e h = subst (λ zs. Here g zs i) e h
-
-pub gap_in : (xs ys : List Spot) (g i : ℕ) → xs ≡ ys → Gap g xs i → Gap g ys i
-gap_in xs ys g i e h = subst (λ zs. Gap g zs i) e h

@@ -1,5 +1,5 @@
 -- The walk of two ascending lists side by side: what each turn of it counts.
-use Rattle.std.proofs.Common.{◌≡◌, ℕ, zero, suc, ◌+◌, ◌<◌, Bool, true, false, not, ◌&&◌, eqb, List, [], ◌∷◌, length, get_or, drop, sym, refl, ap, ◌∙◌, add-one, arith, drop-cons}
+use Rattle.std.proofs.Common.{◌≡◌, ℕ, ◌+◌, ◌<◌, Bool, true, false, not, ◌&&◌, eqb, List, [], ◌∷◌, length, sym, refl, ap, ◌∙◌, arith}
 use Rattle.std.specs.List.{AllByRecursion as All}
 use Rattle.std.proofs.lemmas.Bool.Decides.{nat_tests}
 use Rattle.placing.specs.declared.acts.Spot.{Spot}
@@ -48,10 +48,6 @@ all_above : (g : ℕ) (ps : List Spot) → above g ps ≡ true → All (λ k. g 
 unfolding each every
 all_above g [] h = tt
 all_above g (p ∷ ps) h = (grind (arith, nat_tests), all_above g ps (grind arith))
-
-goods_cons : (p : Spot) (ps : List Spot) → goods_of (p ∷ ps) ≡ p.good ∷ goods_of ps
-unfolding each
-goods_cons p ps = refl
 
 pub head_above : (p : Spot) (ps : List Spot) → ascends (p ∷ ps) ≡ true → above p.good ps ≡ true
 unfolding ascends
@@ -118,40 +114,25 @@ pub tail_ascends : (p : Spot) (ps : List Spot) → ascends (p ∷ ps) ≡ true �
 unfolding ascends
 tail_ascends p ps h = grind arith
 
--- what is left of an ascending list ascends
-pub drop_ascends : (xs : List Spot) (i : ℕ) → ascends xs ≡ true → ascends (drop i xs) ≡ true
-drop_ascends [] zero h = h
-drop_ascends [] (suc i) h = h
-drop_ascends (x ∷ xs) zero h = h
-drop_ascends (x ∷ xs) (suc i) h = drop_ascends xs i (tail_ascends x xs h)
+-- what a turn of the walk passes, by the first goods of both lists
+module _ (xs ys : List Spot) (p q : Spot) (ps qs : List Spot) (ex : xs ≡ p ∷ ps) (ey : ys ≡ q ∷ qs) (hx : ascends xs ≡ true) where
+  pub turn_left : ascends ys ≡ true → p.good < q.good → crossed xs ys ≡ crossed ps ys
+  turn_left hy lt = rw (ex, ey) (step_left p q ps qs (rw ex at hx) (rw ey at hy) lt)
 
-module _ (xs ys : List Spot) (i j : ℕ) (d : Spot) (hx : ascends xs ≡ true) (hy : ascends ys ≡ true) (li : i < length xs) (lj : j < length ys) where
-  left_cut : drop i xs ≡ get_or xs i d ∷ drop (i + 1) xs
-  left_cut = rw (add-one i) (drop-cons xs i d li)
+  pub turn_right : q.good < p.good → crossed xs ys ≡ crossed xs qs
+  turn_right lt = rw (ex, ey) (step_right p q ps qs (rw ex at hx) lt)
 
-  right_cut : drop j ys ≡ get_or ys j d ∷ drop (j + 1) ys
-  right_cut = rw (add-one j) (drop-cons ys j d lj)
+  pub turn_both : p.good ≡ q.good → crossed xs ys ≡ bit (not (eqb p.shelf q.shelf)) + crossed ps qs
+  turn_both e = rw (ex, ey) (step_both p q ps qs (rw ex at hx) (sym e))
 
-  left_ascends : ascends (get_or xs i d ∷ drop (i + 1) xs) ≡ true
-  left_ascends = ap ascends (sym left_cut) ∙ drop_ascends xs i hx
+pub rest_ascends : (xs : List Spot) (p : Spot) (ps : List Spot) → xs ≡ p ∷ ps → ascends xs ≡ true → ascends ps ≡ true
+rest_ascends xs p ps ex hx = tail_ascends p ps (rw ex at hx)
 
-  right_ascends : ascends (get_or ys j d ∷ drop (j + 1) ys) ≡ true
-  right_ascends = ap ascends (sym right_cut) ∙ drop_ascends ys j hy
+-- where one of the lists has ended, nothing is left to count
+pub ended_left : (xs ys : List Spot) → length xs ≡ 0 → crossed xs ys ≡ 0
+ended_left [] ys h = step_none ys
+ended_left (x ∷ xs) ys h = absurd (omega arith)
 
-  pub turn_left : (get_or xs i d).good < (get_or ys j d).good → crossed (drop i xs) (drop j ys) ≡ crossed (drop (i + 1) xs) (drop j ys)
-  turn_left lt =
-      ap (λ zs. crossed zs (drop j ys)) left_cut ∙ ap (crossed (get_or xs i d ∷ drop (i + 1) xs)) right_cut
-      ∙ step_left (get_or xs i d) (get_or ys j d) (drop (i + 1) xs) (drop (j + 1) ys) left_ascends right_ascends lt
-      ∙ ap (crossed (drop (i + 1) xs)) (sym right_cut)
-
-  pub turn_right : (get_or ys j d).good < (get_or xs i d).good → crossed (drop i xs) (drop j ys) ≡ crossed (drop i xs) (drop (j + 1) ys)
-  turn_right lt =
-      ap (λ zs. crossed zs (drop j ys)) left_cut ∙ ap (crossed (get_or xs i d ∷ drop (i + 1) xs)) right_cut
-      ∙ step_right (get_or xs i d) (get_or ys j d) (drop (i + 1) xs) (drop (j + 1) ys) left_ascends lt
-      ∙ ap (λ zs. crossed zs (drop (j + 1) ys)) (sym left_cut)
-
-  pub turn_both : (get_or ys j d).good ≡ (get_or xs i d).good →
-      crossed (drop i xs) (drop j ys) ≡ bit (not (eqb (get_or xs i d).shelf (get_or ys j d).shelf)) + crossed (drop (i + 1) xs) (drop (j + 1) ys)
-  turn_both e =
-      ap (λ zs. crossed zs (drop j ys)) left_cut ∙ ap (crossed (get_or xs i d ∷ drop (i + 1) xs)) right_cut
-      ∙ step_both (get_or xs i d) (get_or ys j d) (drop (i + 1) xs) (drop (j + 1) ys) left_ascends e
+pub ended_right : (xs ys : List Spot) → length ys ≡ 0 → crossed xs ys ≡ 0
+ended_right xs [] h = step_over xs
+ended_right xs (y ∷ ys) h = absurd (omega arith)

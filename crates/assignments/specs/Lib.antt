@@ -1,4 +1,4 @@
 -- What the contracts cite.
 pub mod Spots
 pub mod Spread
-pub mod Pairs
+pub mod Carried

@@ -2,7 +2,6 @@
 #![tactic(auto)]
 
 mod assignment;
-mod pair;
 mod shelf_loads;
 
 pub use assignment::{Assignment, carried};

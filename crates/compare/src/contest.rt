@@ -1,19 +1,19 @@
 // The machine and another rule, side by side through the steps of a file.
 use crate::ours::{Ours, Told};
 use crate::progress::Progress;
-use crate::table::name;
 use crate::tally::Tally;
 use crate::trouble::Trouble;
 use assignments::spread;
 use placing::Command;
-use rules::{Rival, Rule};
+use rules::{Jump, Remainders, Rendezvous, Ring, Rival, Rule};
 use std::alloc::{AllocError, Global};
 use steps::Steps;
 
 // One pass over the steps.
 #[derive(Drop)]
 pub struct Contest {
-    pub rule: Rule,
+    // The name of the other rule.
+    pub rule: &'static str,
     pub ours: Tally,
     pub theirs: Tally,
 }
@@ -22,24 +22,25 @@ pub struct Contest {
 pub fn contests(rt: &HostRuntime, path: &str, bytes: &[u8]) -> Result<Vec<Contest>, Trouble> {
     let heap = rt.alloc();
     let mut contests = Vec::new(heap);
-    for rule in [Rule::Remainders, Rule::Rendezvous, Rule::Jump, Rule::Ring] {
-        contests.push(pass(rt, path, bytes, rule)?)?;
-    }
+    contests.push(pass::<Remainders>(rt, path, bytes)?)?;
+    contests.push(pass::<Rendezvous>(rt, path, bytes)?)?;
+    contests.push(pass::<Jump>(rt, path, bytes)?)?;
+    contests.push(pass::<Ring>(rt, path, bytes)?)?;
     Ok(contests)
 }
 
-fn pass(rt: &HostRuntime, path: &str, bytes: &[u8], rule: Rule) -> Result<Contest, Trouble> {
+fn pass<R: Rule>(rt: &HostRuntime, path: &str, bytes: &[u8]) -> Result<Contest, Trouble> {
     let heap = rt.alloc();
     let mut progress = Progress::new(rt);
     let mut ours = Ours::new(heap)?;
-    let mut rival = Rival::new(heap, rule);
+    let mut rival = Rival::<R>::new(heap);
     let mut contest = Contest {
-        rule,
+        rule: R::NAME,
         ours: Tally::new(heap),
         theirs: Tally::new(heap),
     };
     for (before, step) in Steps::new(bytes).enumerate() {
-        progress.tell(rt, name(rule), before);
+        progress.tell(rt, R::NAME, before);
         match step {
             Ok(command) => carry_out(heap, &mut contest, &mut ours, &mut rival, command)?,
             Err(flaw) => return Err(Trouble::Step {
@@ -54,11 +55,11 @@ fn pass(rt: &HostRuntime, path: &str, bytes: &[u8], rule: Rule) -> Result<Contes
 }
 
 // One command by both, unless the machine refuses it.
-fn carry_out(
+fn carry_out<R: Rule>(
     heap: Global,
     contest: &mut Contest,
     ours: &mut Ours,
-    rival: &mut Rival,
+    rival: &mut Rival<R>,
     command: Command,
 ) -> Result<(), Trouble> {
     let Told::Done(by_ours) = ours.tell(heap, command)? else {
@@ -79,7 +80,11 @@ fn carry_out(
 }
 
 // One command by the other rule: how many goods it carried.
-fn follow(heap: Global, rival: &mut Rival, command: Command) -> Result<u64, AllocError> {
+fn follow<R: Rule>(
+    heap: Global,
+    rival: &mut Rival<R>,
+    command: Command,
+) -> Result<u64, AllocError> {
     match command {
         Command::GoodComes(good) => {
             rival.good_comes(good)?;

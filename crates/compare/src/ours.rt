@@ -35,14 +35,14 @@ impl Ours {
 
     // Tells the machine, and puts the goods where it says.
     pub fn tell(&mut self, heap: Global, command: Command) -> Result<Told, AllocError>
-        ensures { IfOk result (λ t. Counted self.old.assignment.spots.items self.new.assignment.spots.items t) }
+        ensures { IfOk result (λ t. Counted self.old.assignment self.new.assignment t) }
     {
         let puts = match self.hall.tell(heap, command) {
             Ok(puts) => puts,
             Err(Failure::Refused(_)) => return Ok(Told::Refused),
             Err(Failure::NoMemory) => return Err(AllocError),
         };
-        let before = self.assignment.copied(heap)?;
+        let before = self.assignment.clone()?;
         self.follow(command, puts.as_slice())?;
         Ok(Told::Done(carried(&before, &self.assignment)))
     }

@@ -1,6 +1,5 @@
 // A picture of the goods carried at each shelf that came or went, with one line for each rule.
 use crate::contest::Contest;
-use crate::table::name;
 use std::alloc::{AllocError, Global};
 
 // Where the lines are drawn, in pixels.
@@ -37,7 +36,7 @@ pub fn picture(heap: Global, contests: &[Contest]) -> Result<String, AllocError>
     for (place, contest) in contests.iter().enumerate() {
         let colour = COLOURS[place % COLOURS.len()];
         drawing.curve(contest.theirs.at_shelves.as_slice(), colour, 2)?;
-        drawing.legend(name(contest.rule), colour, place)?;
+        drawing.legend(contest.rule, colour, place)?;
     }
     if let Some(first) = contests.first() {
         drawing.curve(first.ours.at_shelves.as_slice(), OURS, 3)?;

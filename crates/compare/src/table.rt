@@ -1,7 +1,6 @@
 // The table of all rules, one line each.
 use crate::contest::Contest;
 use crate::tally::{Tally, tenths};
-use rules::Rule;
 use std::alloc::{AllocError, Global};
 
 // A number of tenths, or a dash.
@@ -9,15 +8,6 @@ fn decimal(heap: Global, number: Option<u64>) -> Result<String, AllocError> {
     match number {
         Some(n) => format!(in heap; "{}.{}", n / 10, n % 10),
         None => String::from_str(heap, "-"),
-    }
-}
-
-pub fn name(rule: Rule) -> &'static str {
-    match rule {
-        Rule::Remainders => "remainders",
-        Rule::Rendezvous => "rendezvous",
-        Rule::Jump => "jump",
-        Rule::Ring => "ring",
     }
 }
 
@@ -33,7 +23,7 @@ pub fn table(heap: Global, contests: &[Contest]) -> Result<String, AllocError> {
         line(
             heap,
             &mut lines,
-            name(contest.rule),
+            contest.rule,
             &contest.theirs,
             contest.ours.carried,
         )?;

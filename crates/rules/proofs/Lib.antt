@@ -1,1 +1,2 @@
 -- The lemmas.
+pub mod Lists

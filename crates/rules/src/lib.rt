@@ -1,8 +1,18 @@
 // How other rules place goods on shelves.
-#![tactic(auto)]
+#![tactic(auto, using(crate::proofs::Lists::has_item))]
 
 mod hashing;
+mod jump;
+mod remainders;
+mod rendezvous;
+mod ring;
 mod rival;
+mod rule;
 
-pub use hashing::{Point, by_jump, by_remainder, by_rendezvous, by_ring, mix, ring_of};
-pub use rival::{Rival, Rule};
+pub use hashing::mix;
+pub use jump::Jump;
+pub use remainders::Remainders;
+pub use rendezvous::Rendezvous;
+pub use ring::Ring;
+pub use rival::Rival;
+pub use rule::Rule;

@@ -1,147 +1,109 @@
 // A rule that is carried out beside the machine: its shelves, and where it has the goods.
-ghost use Rattle.std.specs.Prelude.{◌≡◌, ℕ, ◌≤◌, List, length, IfOk};
-ghost use Rattle.hall.specs.House.{moved};
-ghost use Rattle.assignments.specs.Spots.{store};
+ghost use Rattle.std.specs.Prelude.{◌≡◌, ℕ, false, [], IfOk, MatchResult, ◌==◌};
+ghost use Rattle.hall.specs.House.{pick};
+ghost use Rattle.assignments.specs.Carried.{Carried};
+ghost use Rattle.assignments.specs.Spots.{shelf_in};
+ghost use Rattle.rules.specs.Shelves.{OneOf, Comes, Goes};
 
-use crate::{Point, by_jump, by_remainder, by_rendezvous, by_ring, ring_of};
+use crate::Rule;
 use assignments::{Assignment, carried};
 use placing::Spot;
 use std::alloc::{AllocError, Global};
 
-#[derive(Clone, Copy, PartialEq, Eq, Debug)]
-pub enum Rule {
-    Remainders,
-    Rendezvous,
-    Jump,
-    Ring,
-}
-
-// The shelves are in ascending order, but for jump hashing in order of arrival: there the last takes the place of one that goes.
 #[derive(Drop)]
-pub struct Rival {
-    rule: Rule,
-    shelves: Vec<u64>,
-    ring: Vec<Point>,
+pub struct Rival<R: Rule> {
+    rule: R,
     assignment: Assignment,
 }
 
-impl Rival {
-    pub fn new(heap: Global, rule: Rule) -> Rival {
+impl<R: Rule> Rival<R> {
+    pub fn new(heap: Global) -> Rival<R>
+        ensures shelves { R.shelves result.rule ≡ [] }
+        ensures assignment { result.assignment ≡ [] }
+    {
         Rival {
-            rule,
-            shelves: Vec::new(heap),
-            ring: Vec::new(heap),
+            rule: R::new(heap),
             assignment: Assignment::new(heap),
         }
     }
 
-    pub fn shelves(&self) -> &[u64] {
-        self.shelves.as_slice()
+    pub fn shelves(&self) -> &[u64]
+        ensures { result.now ≡ R.shelves self.now.rule }
+    {
+        self.rule.shelves()
     }
 
-    pub fn assignment(&self) -> &Assignment {
+    pub fn assignment(&self) -> &Assignment
+        ensures { result.now ≡ self.now.assignment }
+    {
         &self.assignment
     }
 
     // The shelf that the rule gives a good.
-    pub fn shelf_for(&self, good: u64) -> Option<u64> {
-        match self.rule {
-            Rule::Remainders => by_remainder(self.shelves.as_slice(), good),
-            Rule::Rendezvous => by_rendezvous(self.shelves.as_slice(), good),
-            Rule::Jump => by_jump(self.shelves.as_slice(), good),
-            Rule::Ring => by_ring(self.ring.as_slice(), good),
-        }
+    pub fn shelf_for(&self, good: u64) -> Option<u64>
+        ensures one { OneOf (R.shelves self.now.rule) result }
+        ensures more { R.gives self.now.rule good result }
+    {
+        self.rule.shelf_for(good)
     }
 
-    pub fn good_comes(&mut self, good: u64) -> Result<(), AllocError> {
+    // No other good is carried.
+    pub fn good_comes(&mut self, good: u64) -> Result<(), AllocError>
+        ensures { IfOk result (λ _. (g : ℕ) → (g == good) ≡ false → shelf_in self.new.assignment g ≡ shelf_in self.old.assignment g) }
+    {
         let Some(shelf) = self.shelf_for(good) else {
             return Ok(());
         };
         self.assignment.put(Spot { good, shelf })
     }
 
-    pub fn good_goes(&mut self, good: u64) {
+    pub fn good_goes(&mut self, good: u64)
+        ensures { (g : ℕ) → shelf_in self.new.assignment g ≡ pick (g == good) [] (shelf_in self.old.assignment g) }
+    {
         self.assignment.remove(good);
     }
 
-    // A shelf comes: how many goods are carried.
+    // A shelf comes: how many goods are carried. Without memory nothing changes.
     pub fn shelf_comes(&mut self, heap: Global, shelf: u64) -> Result<u64, AllocError>
-        ensures { IfOk result (λ n. (ks ls : List ℕ) → n ≡ length (moved (store ks self.old.assignment.spots.items) (store ls self.new.assignment.spots.items))) }
+        ensures goods { MatchResult result (Carried self.old.assignment self.new.assignment) (λ _. self.new ≡ self.old) }
+        ensures shelves { IfOk result (λ _. Comes shelf (R.shelves self.old.rule) (R.shelves self.new.rule)) }
     {
-        let place = match self.rule {
-            Rule::Jump => self.shelves.len(),
-            _ => smaller(self.shelves.as_slice(), shelf),
-        };
-        self.shelves.insert(place, shelf)?;
-        self.assign_anew(heap)
+        let rule = self.rule.with(heap, shelf)?;
+        self.change(heap, rule)
     }
 
-    // A shelf goes: how many goods are carried.
+    // A shelf goes: how many goods are carried. Without memory nothing changes.
     pub fn shelf_goes(&mut self, heap: Global, shelf: u64) -> Result<u64, AllocError>
-        ensures { IfOk result (λ n. (ks ls : List ℕ) → n ≡ length (moved (store ks self.old.assignment.spots.items) (store ls self.new.assignment.spots.items))) }
+        ensures goods { MatchResult result (Carried self.old.assignment self.new.assignment) (λ _. self.new ≡ self.old) }
+        ensures shelves { IfOk result (λ _. Goes shelf (R.shelves self.old.rule) (R.shelves self.new.rule)) }
     {
-        match self.rule {
-            Rule::Jump => take_last_for(&mut self.shelves, shelf),
-            _ => take(&mut self.shelves, shelf),
-        }
-        self.assign_anew(heap)
+        let rule = self.rule.without(heap, shelf)?;
+        self.change(heap, rule)
     }
 
-    fn assign_anew(&mut self, heap: Global) -> Result<u64, AllocError>
-        ensures { IfOk result (λ n. (ks ls : List ℕ) → n ≡ length (moved (store ks self.old.assignment.spots.items) (store ls self.new.assignment.spots.items))) }
+    // The rule has other shelves from now on: how many goods are carried. Without memory nothing changes.
+    fn change(&mut self, heap: Global, rule: R) -> Result<u64, AllocError>
+        ensures goods { MatchResult result (Carried self.old.assignment self.new.assignment) (λ _. self.new ≡ self.old) }
+        ensures rule { IfOk result (λ _. self.new.rule ≡ rule) }
     {
-        if self.rule == Rule::Ring {
-            self.ring = ring_of(heap, self.shelves.as_slice())?;
-        }
-        let next = self.assigned(heap)?;
+        let next = assigned(heap, &rule, self.assignment.spots())?;
         let count = carried(&self.assignment, &next);
+        self.rule = rule;
         self.assignment = next;
         Ok(count)
     }
-
-    // Each good that is there, where the rule has it now.
-    fn assigned(&self, heap: Global) -> Result<Assignment, AllocError> {
-        let mut next = Assignment::new(heap);
-        for spot in self.assignment.spots() {
-            if let Some(shelf) = self.shelf_for(spot.good) {
-                next.put(Spot {
-                    good: spot.good,
-                    shelf,
-                })?;
-            }
-        }
-        Ok(next)
-    }
 }
 
-// How many shelves come before one in an ascending list.
-fn smaller(shelves: &[u64], shelf: u64) -> usize
-    ensures { result ≤ length shelves.now }
-{
-    for (place, other) in shelves.iter().enumerate() {
-        if shelf <= *other {
-            return place;
+// Each of these goods, where the rule has it.
+fn assigned<R: Rule>(heap: Global, rule: &R, spots: &[Spot]) -> Result<Assignment, AllocError> {
+    let mut next = Assignment::new(heap);
+    for spot in spots {
+        if let Some(shelf) = rule.shelf_for(spot.good) {
+            next.put(Spot {
+                good: spot.good,
+                shelf,
+            })?;
         }
     }
-    shelves.len()
-}
-
-// Takes a shelf out of a list, and keeps the order of the others.
-fn take(shelves: &mut Vec<u64>, shelf: u64) {
-    for place in 0..shelves.len() {
-        if shelves[place] == shelf {
-            let _ = shelves.remove(place);
-            return;
-        }
-    }
-}
-
-// Takes a shelf out of a list, and puts the last in its place.
-fn take_last_for(shelves: &mut Vec<u64>, shelf: u64) {
-    for place in 0..shelves.len() {
-        if shelves[place] == shelf {
-            let _ = shelves.swap_remove(place);
-            return;
-        }
-    }
+    Ok(next)
 }

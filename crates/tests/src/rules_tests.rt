@@ -1,7 +1,7 @@
 // The rules: what a shelf that comes takes from the others, and what a shelf that goes leaves to them.
 use assignments::{Assignment, carried, spread};
 use placing::Spot;
-use rules::{Rival, Rule, mix};
+use rules::{Jump, Remainders, Rendezvous, Ring, Rival, Rule, mix};
 use std::alloc::{AllocError, Global};
 use std::process::Abort;
 use std::test::Fail;
@@ -10,8 +10,8 @@ const SHELVES: u64 = 10;
 
 const GOODS: u64 = 1000;
 
-fn filled(heap: Global, rule: Rule) -> Result<Rival, AllocError> {
-    let mut rival = Rival::new(heap, rule);
+fn filled<R: Rule>(heap: Global) -> Result<Rival<R>, AllocError> {
+    let mut rival = Rival::new(heap);
     for shelf in 0..SHELVES {
         let _ = rival.shelf_comes(heap, shelf)?;
     }
@@ -33,9 +33,9 @@ fn strays(before: &Assignment, after: &Assignment, shelf: u64) -> u64 {
 }
 
 // A consistent rule gives goods to a shelf that comes, about its share of them, and moves no other.
-fn takes_only(rt: &impl Abort, heap: Global, rule: Rule) -> Result<(), Fail> {
-    let mut rival = filled(heap, rule)?;
-    let before = rival.assignment().copied(heap)?;
+fn takes_only<R: Rule>(rt: &impl Abort, heap: Global) -> Result<(), Fail> {
+    let mut rival = filled::<R>(heap)?;
+    let before = rival.assignment().clone()?;
     let count = rival.shelf_comes(heap, SHELVES)?;
     assert_eq!(rt; strays(&before, rival.assignment(), SHELVES), 0);
     assert!(rt; 40 < count && count < 180);
@@ -44,32 +44,34 @@ fn takes_only(rt: &impl Abort, heap: Global, rule: Rule) -> Result<(), Fail> {
 
 #[test]
 fn a_shelf_that_comes_only_takes(rt: HostRuntime) -> Result<(), Fail> {
-    takes_only(&rt, rt.alloc(), Rule::Rendezvous)?;
-    takes_only(&rt, rt.alloc(), Rule::Jump)?;
-    takes_only(&rt, rt.alloc(), Rule::Ring)
+    takes_only::<Rendezvous>(&rt, rt.alloc())?;
+    takes_only::<Jump>(&rt, rt.alloc())?;
+    takes_only::<Ring>(&rt, rt.alloc())
 }
 
 #[test]
 fn remainders_move_nearly_all(rt: HostRuntime) -> Result<(), Fail> {
     let heap = rt.alloc();
-    let mut rival = filled(heap, Rule::Remainders)?;
+    let mut rival = filled::<Remainders>(heap)?;
     let count = rival.shelf_comes(heap, SHELVES)?;
     assert!(rt; 850 < count && count < 950);
     Ok(())
 }
 
-// Where a shelf goes, only its own goods move, by rendezvous hashing and by the ring.
+// Where a shelf goes, only its own goods move.
+fn leaves_the_others<R: Rule>(rt: &impl Abort, heap: Global) -> Result<(), Fail> {
+    let mut rival = filled::<R>(heap)?;
+    let before = rival.assignment().clone()?;
+    let count = rival.shelf_goes(heap, 3)?;
+    assert_eq!(rt; strays(rival.assignment(), &before, 3), 0);
+    assert!(rt; 40 < count && count < 180);
+    Ok(())
+}
+
 #[test]
 fn a_shelf_that_goes_leaves_the_others(rt: HostRuntime) -> Result<(), Fail> {
-    let heap = rt.alloc();
-    for rule in [Rule::Rendezvous, Rule::Ring] {
-        let mut rival = filled(heap, rule)?;
-        let before = rival.assignment().copied(heap)?;
-        let count = rival.shelf_goes(heap, 3)?;
-        assert_eq!(rt; strays(rival.assignment(), &before, 3), 0);
-        assert!(rt; 40 < count && count < 180);
-    }
-    Ok(())
+    leaves_the_others::<Rendezvous>(&rt, rt.alloc())?;
+    leaves_the_others::<Ring>(&rt, rt.alloc())
 }
 
 #[test]
@@ -78,7 +80,7 @@ fn counts_of_two_goods(rt: HostRuntime) -> Result<(), Fail> {
     let mut before = Assignment::new(heap);
     before.put(Spot { good: 7, shelf: 1 })?;
     before.put(Spot { good: 3, shelf: 1 })?;
-    let mut after = before.copied(heap)?;
+    let mut after = before.clone()?;
     after.put(Spot { good: 7, shelf: 2 })?;
     after.put(Spot { good: 5, shelf: 2 })?;
     assert_eq!(rt; carried(&before, &after), 1);

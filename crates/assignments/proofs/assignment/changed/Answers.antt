@@ -1,42 +1,65 @@
 -- Each turn counts what the walk's laws say.
-use Rattle.std.proofs.Common.{◌+◌, drop, sym, ap, ◌∙◌, arith}
-use Rattle.std.proofs.lemmas.List.{at_drop_all}
+use Rattle.std.proofs.Common.{arith}
 use Rattle.std.proofs.lemmas.Bool.Decides.{nat_tests}
-use Rattle.assignments.specs.Spots.{zeros}
-use Rattle.assignments.proofs.Walk.{crossed, step_none, step_over, turn_left, turn_right, turn_both}
+use Rattle.std.proofs.lemmas.Cmp.{ranked}
+use Rattle.assignments.proofs.Walk.{rest_ascends, turn_left, turn_right, turn_both, ended_left, ended_right}
 use Rattle.assignments.proofs.assignment.changed.Goals as goal
 
-pub loop-i-preserved-in-Gone : goal.loop-i-preserved-in-Gone
-loop-i-preserved-in-Gone c =
-    let turn = turn_left c.args.before.now c.args.after.now c.loop-i.i c.loop-i.j zeros c.requires.before_ascends c.requires.after_ascends c.loop-i-test.true c.if-j-after.true c.in-Gone.ensures
-    in (ap (λ n. c.loop-i.count + n) (sym turn) ∙ c.loop-i.invariant.0, omega arith)
+pub loop-first-preserved-in-Less : goal.loop-first-preserved-in-Less
+loop-first-preserved-in-Less c =
+    let kept = c.loop-first.invariant in
+    let left = c.in-Some-Some.ensures.cases in
+    let right = c.in-Some-Some.ensures'.cases in
+    let turn = turn_left _ _ _ _ _ _ left.0 right.0 kept.before_ascends kept.after_ascends (ranked _ _ _ c.in-Less.ensures) in
+    record {
+      counted = omega (arith, kept.counted, turn);
+      fits = omega arith;
+      before_ascends = rest_ascends _ _ _ left.0 kept.before_ascends;
+      after_ascends = kept.after_ascends;
+    }
 
-pub loop-i-preserved-in-New : goal.loop-i-preserved-in-New
-loop-i-preserved-in-New c =
-    let turn = turn_right c.args.before.now c.args.after.now c.loop-i.i c.loop-i.j zeros c.requires.before_ascends c.requires.after_ascends c.loop-i-test.true c.if-j-after.true c.in-New.ensures
-    in (ap (λ n. c.loop-i.count + n) (sym turn) ∙ c.loop-i.invariant.0, omega arith)
+pub loop-first-preserved-in-Greater : goal.loop-first-preserved-in-Greater
+loop-first-preserved-in-Greater c =
+    let kept = c.loop-first.invariant in
+    let left = c.in-Some-Some.ensures.cases in
+    let right = c.in-Some-Some.ensures'.cases in
+    let turn = turn_right _ _ _ _ _ _ left.0 right.0 kept.before_ascends (ranked _ _ _ c.in-Greater.ensures) in
+    record {
+      counted = omega (arith, kept.counted, turn);
+      fits = kept.fits;
+      before_ascends = kept.before_ascends;
+      after_ascends = rest_ascends _ _ _ right.0 kept.after_ascends;
+    }
 
-pub loop-i-preserved-in-Stays : goal.loop-i-preserved-in-Stays
-loop-i-preserved-in-Stays c =
-    let same = c.in-Stays.ensures in
-    let turn = turn_both c.args.before.now c.args.after.now c.loop-i.i c.loop-i.j zeros c.requires.before_ascends c.requires.after_ascends c.loop-i-test.true c.if-j-after.true same.0
-    in grind (arith, nat_tests)
+pub loop-first-preserved-then-first-second : goal.loop-first-preserved-then-first-second
+loop-first-preserved-then-first-second c =
+    let kept = c.loop-first.invariant in
+    let left = c.in-Some-Some.ensures.cases in
+    let right = c.in-Some-Some.ensures'.cases in
+    let turn = turn_both _ _ _ _ _ _ left.0 right.0 kept.before_ascends (ranked _ _ _ c.in-Equal.ensures) in
+    record {
+      counted = grind (arith, nat_tests, kept.counted, turn);
+      fits = omega arith;
+      before_ascends = rest_ascends _ _ _ left.0 kept.before_ascends;
+      after_ascends = rest_ascends _ _ _ right.0 kept.after_ascends;
+    }
 
-pub loop-i-preserved : goal.loop-i-preserved
-loop-i-preserved c =
-    let other = c.in-Moves.ensures in
-    let turn = turn_both c.args.before.now c.args.after.now c.loop-i.i c.loop-i.j zeros c.requires.before_ascends c.requires.after_ascends c.loop-i-test.true c.if-j-after.true other.0
-    in grind (arith, nat_tests)
+pub loop-first-preserved : goal.loop-first-preserved
+loop-first-preserved c =
+    let kept = c.loop-first.invariant in
+    let left = c.in-Some-Some.ensures.cases in
+    let right = c.in-Some-Some.ensures'.cases in
+    let turn = turn_both _ _ _ _ _ _ left.0 right.0 kept.before_ascends (ranked _ _ _ c.in-Equal.ensures) in
+    record {
+      counted = grind (arith, nat_tests, kept.counted, turn);
+      fits = omega arith;
+      before_ascends = rest_ascends _ _ _ left.0 kept.before_ascends;
+      after_ascends = rest_ascends _ _ _ right.0 kept.after_ascends;
+    }
 
 -- at the end of one of the lists nothing is left to count
-pub returns-else-j-after : goal.returns-else-j-after
-returns-else-j-after c =
-    let none = at_drop_all (crossed (drop c.loop-i.i c.args.before.now)) c.args.after.now c.loop-i.j c.if-j-after.false
-    ∙ step_over (drop c.loop-i.i c.args.before.now)
-    in omega (arith, c.loop-i.invariant.0, none)
+pub returns-in_default : goal.returns-in_default
+returns-in_default c ks ls = omega (arith, c.loop-first.invariant.counted, ended_right c.loop-first.before.now c.loop-first.after.now c.in_default.ensures'.cases)
 
-pub returns-after-loop-i : goal.returns-after-loop-i
-returns-after-loop-i c =
-    let none = at_drop_all (λ xs. crossed xs (drop c.loop-i.j c.args.after.now)) c.args.before.now c.loop-i.i c.loop-i-test.false
-    ∙ step_none (drop c.loop-i.j c.args.after.now)
-    in omega (arith, c.loop-i.invariant.0, none)
+pub returns-in_default-2 : goal.returns-in_default-2
+returns-in_default-2 c ks ls = omega (arith, c.loop-first.invariant.counted, ended_left c.loop-first.before.now c.loop-first.after.now c.in_default.ensures.cases)

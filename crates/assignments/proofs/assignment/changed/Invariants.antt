@@ -1,10 +1,16 @@
 -- What is counted and what is left to count give the whole count.
-use Rattle.std.proofs.Common.{◌≡◌, ◌+◌, ◌-◌, ◌≤◌, length, drop}
+use Rattle.std.proofs.Common.{◌≡◌, ◌+◌, ◌≤◌, true, length}
+use Rattle.assignments.specs.Spots.{ascends}
 use Rattle.assignments.proofs.Walk.{crossed}
 use Rattle.assignments.proofs.assignment.changed.Given as goal
 
-abbrev pub invariant-loop-i : goal.invariant-loop-i
-invariant-loop-i l = (l.count + crossed (drop l.i l.before) (drop l.j l.after) ≡ crossed l.before l.after) × (l.count ≤ l.i)
+abbrev pub invariant-loop-first : goal.invariant-loop-first
+invariant-loop-first l = record {
+  counted : l.count + crossed l.before l.after ≡ crossed l.fn.before l.fn.after;
+  fits : l.count + length l.before ≤ length l.fn.before;
+  before_ascends : ascends l.before ≡ true;
+  after_ascends : ascends l.after ≡ true;
+}
 
-abbrev pub decreases-loop-i : goal.decreases-loop-i
-decreases-loop-i l = (length l.before - l.i) + (length l.after - l.j)
+abbrev pub decreases-loop-first : goal.decreases-loop-first
+decreases-loop-first l = length l.before + length l.after

@@ -5,4 +5,4 @@ use Rattle.assignments.proofs.assignment.Assignment.new.Goals as goal
 
 pub invariant_of-result : goal.invariant_of-result
 unfolding ascends
-invariant_of-result c = record { ascending = ap ascends c.new.ensures.items }
+invariant_of-result c = ap ascends c.new.ensures.items

@@ -1,0 +1,20 @@
+-- The lists of shelves, and what a rule may say of a good.
+use Rattle.std.specs.Prelude.{◌≡◌, ℕ, ◌%◌, true, false, List, ◌∷◌, length, Option, MatchOption, slice_index}
+use Rattle.std.specs.List.Sorted.{IsPermutation}
+use Rattle.hall.specs.House.{has}
+
+-- one of the shelves, or none where there is none
+abbrev pub OneOf : List ℕ → Option ℕ → Type 0
+OneOf ks s = MatchOption s (length ks ≡ 0) (λ k. has ks k ≡ true)
+
+-- the shelf at the place that is the remainder of the number
+abbrev pub AtRemainder : List ℕ → ℕ → Option ℕ → Type 0
+AtRemainder ks g s = MatchOption s (length ks ≡ 0) (λ k. k ≡ slice_index ks (g % length ks))
+
+-- the second list has all that the first has, and the shelf
+abbrev pub Comes : ℕ → List ℕ → List ℕ → Type 0
+Comes k ks ls = IsPermutation (k ∷ ks) ls
+
+-- a shelf that was there is there once less, and the others stay; else nothing changes
+abbrev pub Goes : ℕ → List ℕ → List ℕ → Type 0
+Goes k ks ls = (has ks k ≡ true → IsPermutation ks (k ∷ ls)) × (has ks k ≡ false → ls ≡ ks)

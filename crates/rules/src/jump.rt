@@ -1,0 +1,59 @@
+// By jump consistent hashing: each jump goes on to the place where the good would next move, were there more shelves.
+use crate::{Rule, mix};
+use std::alloc::{AllocError, Global};
+
+// The shelves are in order of arrival, and the last takes the place of one that goes.
+#[derive(Drop)]
+pub struct Jump {
+    shelves: Vec<u64>,
+}
+
+impl Rule for Jump {
+    ghost shelves = { λ r. r.shelves.items };
+
+    const NAME: &'static str = "jump";
+
+    fn new(heap: Global) -> Jump {
+        Jump {
+            shelves: Vec::new(heap),
+        }
+    }
+
+    fn of(_heap: Global, shelves: Vec<u64>) -> Result<Jump, AllocError> {
+        Ok(Jump { shelves })
+    }
+
+    fn shelves(&self) -> &[u64] {
+        self.shelves.as_slice()
+    }
+
+    fn shelf_for(&self, good: u64) -> Option<u64> {
+        let count = self.shelves.len().min(0xffff_ffff) as u64;
+        if count == 0 {
+            return None;
+        }
+        let mut key = mix(good);
+        let mut place = 0u64;
+        let mut next = 0u64;
+        while next < count {
+            place = next;
+            key = key.wrapping_mul(2_862_933_555_777_941_757).wrapping_add(1);
+            next = (place + 1) * 0x8000_0000 / ((key >> 33) + 1);
+        }
+        Some(self.shelves[place as usize])
+    }
+
+    fn with(&self, heap: Global, shelf: u64) -> Result<Jump, AllocError> {
+        let mut list = Vec::from_slice(heap, self.shelves())?;
+        list.push(shelf)?;
+        Ok(Jump { shelves: list })
+    }
+
+    fn without(&self, heap: Global, shelf: u64) -> Result<Jump, AllocError> {
+        let mut list = Vec::from_slice(heap, self.shelves())?;
+        if let Some(place) = self.shelves.iter().position(|other| *other == shelf) {
+            let _ = list.swap_remove(place);
+        }
+        Ok(Jump { shelves: list })
+    }
+}

@@ -1,0 +1,41 @@
+// By rendezvous hashing: the shelf whose hash together with the good is the greatest.
+use crate::{Rule, mix};
+use std::alloc::{AllocError, Global};
+
+#[derive(Drop)]
+pub struct Rendezvous {
+    shelves: Vec<u64>,
+}
+
+impl Rule for Rendezvous {
+    ghost shelves = { λ r. r.shelves.items };
+
+    const NAME: &'static str = "rendezvous";
+
+    fn new(heap: Global) -> Rendezvous {
+        Rendezvous {
+            shelves: Vec::new(heap),
+        }
+    }
+
+    fn of(_heap: Global, shelves: Vec<u64>) -> Result<Rendezvous, AllocError> {
+        Ok(Rendezvous { shelves })
+    }
+
+    fn shelves(&self) -> &[u64] {
+        self.shelves.as_slice()
+    }
+
+    // Two shelves never tie, since each step of a score can be undone.
+    fn shelf_for(&self, good: u64) -> Option<u64> {
+        let best = self
+            .shelves
+            .iter()
+            .max_by_key(|shelf| score(**shelf, good))?;
+        Some(*best)
+    }
+}
+
+fn score(shelf: u64, good: u64) -> u64 {
+    mix(good ^ mix(shelf))
+}
