@@ -17,7 +17,7 @@ impl fmt::Display for Line {
     fn fmt<W: fmt::Write>(&self, f: &mut fmt::Formatter<W>) -> fmt::Result {
         match *self {
             Line::Put(spot) => write!(f, "{} on {}", spot.good, spot.shelf),
-            Line::Refused(why) => write!(f, "refused {}", why.number()),
+            Line::Refused(why) => write!(f, "refused {}", u64::from(why)),
         }
     }
 }

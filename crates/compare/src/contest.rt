@@ -1,5 +1,5 @@
 // The machine and another rule, side by side through the steps of a file.
-use crate::ours::{Ours, Told};
+use crate::ours::Ours;
 use crate::progress::Progress;
 use crate::tally::Tally;
 use crate::trouble::Trouble;
@@ -62,13 +62,14 @@ fn carry_out<R: Rule>(
     rival: &mut Rival<R>,
     command: Command,
 ) -> Result<(), Trouble> {
-    let Told::Done(by_ours) = ours.tell(heap, command)? else {
+    let Some(by_ours) = ours.tell(heap, command)? else {
         return Ok(());
     };
     let by_theirs = follow(heap, rival, command)?;
     contest.ours.add(by_ours);
     contest.theirs.add(by_theirs);
-    if is_of_shelf(command) && !rival.assignment().spots().is_empty() {
+    let of_shelf = matches!(command, Command::ShelfComes(_) | Command::ShelfGoes(_));
+    if of_shelf && !rival.assignment().spots().is_empty() {
         contest
             .ours
             .add_at_shelf(by_ours, spread(ours.assignment(), rival.shelves()))?;
@@ -97,12 +98,5 @@ fn follow<R: Rule>(
         Command::ShelfComes(shelf) => rival.shelf_comes(heap, shelf),
         Command::ShelfGoes(shelf) => rival.shelf_goes(heap, shelf),
         Command::WhereIs(_) => Ok(0),
-    }
-}
-
-fn is_of_shelf(command: Command) -> bool {
-    match command {
-        Command::ShelfComes(_) | Command::ShelfGoes(_) => true,
-        _ => false,
     }
 }

@@ -7,14 +7,6 @@ use owner::{Failure, Hall};
 use placing::{Command, Spot};
 use std::alloc::{AllocError, Global};
 
-// What became of a command.
-#[derive(Clone, Copy)]
-pub enum Told {
-    Refused,
-    // So many goods were carried.
-    Done(u64),
-}
-
 #[derive(Drop)]
 pub struct Ours {
     hall: Hall,
@@ -33,18 +25,18 @@ impl Ours {
         &self.assignment
     }
 
-    // Tells the machine, and puts the goods where it says.
-    pub fn tell(&mut self, heap: Global, command: Command) -> Result<Told, AllocError>
+    // Tells the machine, and puts the goods where it says: how many are carried, or none where the command is refused.
+    pub fn tell(&mut self, heap: Global, command: Command) -> Result<Option<u64>, AllocError>
         ensures { IfOk result (λ t. Counted self.old.assignment self.new.assignment t) }
     {
         let puts = match self.hall.tell(heap, command) {
             Ok(puts) => puts,
-            Err(Failure::Refused(_)) => return Ok(Told::Refused),
+            Err(Failure::Refused(_)) => return Ok(None),
             Err(Failure::NoMemory) => return Err(AllocError),
         };
         let before = self.assignment.clone()?;
         self.follow(command, puts.as_slice())?;
-        Ok(Told::Done(carried(&before, &self.assignment)))
+        Ok(Some(carried(&before, &self.assignment)))
     }
 
     fn follow(&mut self, command: Command, puts: &[Spot]) -> Result<(), AllocError> {

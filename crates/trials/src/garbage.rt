@@ -1,10 +1,10 @@
 // Memories that no commands lead to: a step on them only has to return.
 use crate::chance::Chance;
-use placing::{Told, WORDS, step};
+use placing::{Act, WORDS, step};
 use std::alloc::{AllocError, Global};
 use std::fmt;
 
-// How often each was told.
+// How often each act came; what is not taken counts as refused.
 #[derive(Clone, Copy, Default)]
 pub struct Answers {
     pub puts: u64,
@@ -19,11 +19,11 @@ fn fill(memory: &mut [u64], chance: &mut Chance, limit: u64) {
 }
 
 impl Answers {
-    fn note(&mut self, told: Told) {
-        let count = match told {
-            Told::Put(_) => &mut self.puts,
-            Told::Done => &mut self.done,
-            Told::No(_) => &mut self.refused,
+    fn note(&mut self, act: Option<Act>) {
+        let count = match act {
+            Some(Act::Puts(_)) => &mut self.puts,
+            Some(Act::Done) => &mut self.done,
+            Some(Act::Refused(_)) | None => &mut self.refused,
         };
         *count = count.saturating_add(1);
     }
@@ -38,7 +38,7 @@ fn any_kind(chance: &mut Chance) -> u64 {
     }
 }
 
-fn any_step(memory: &mut [u64], chance: &mut Chance, limit: u64) -> Told {
+fn any_step(memory: &mut [u64], chance: &mut Chance, limit: u64) -> Option<Act> {
     let mut out = [0u64; 2];
     let kind = any_kind(chance);
     let number = chance.below(limit);
