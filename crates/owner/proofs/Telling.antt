@@ -1,5 +1,5 @@
 -- What telling a command leaves of a hall that is reached.
-use Rattle.std.proofs.Common.{◌≡◌, ℕ, ◌+◌, ◌<◌, ◌≤◌, List, [], ◌∷◌, ◌++◌, length, get_or, take, Some, Ok, Err, Result, Vec, sym, refl, subst, arith, lit<}
+use Rattle.std.proofs.Common.{◌≡◌, ℕ, ◌+◌, ◌<◌, ◌≤◌, List, [], ◌∷◌, ◌++◌, length, get_or, take, Some, None, Ok, Err, Option, Result, Vec, sym, refl, subst, arith, lit<}
 use mathlib.Core.Logic.{∥∥₁_map, ∥∥₁_elim}
 use base.Stored.{Coded-set, coded_list, coded_ℕ}
 use Rattle.std.proofs.lemmas.List.{take_more, take_all}
@@ -12,18 +12,14 @@ use Rattle.placing_model.specs.Reached.{Reached, refusing, Answered, hall_then, 
 use Rattle.placing_model.proofs.Reaching.{run_done, run_refused, run_ends, carried_more, carried_none}
 use Rattle.placing.specs.Acts.{refusal_number, command_of}
 use Rattle.owner.specs.Runs.{ending_number}
-use Rattle.owner.specs.Halls.{answer_of, answer_as, answers_of, outcome_from, commands_of, AllTold, GoesOn}
+use Rattle.owner.specs.Halls.{Outcome, answer_of, answer_as, answers_of, outcome_from, commands_of, AllTold, GoesOn}
 use Rattle.placing.specs.declared.acts.Refusal.{Refusal}
 use Rattle.placing.specs.declared.acts.Refusal.TheVariants.{Busy, NotThere, AlreadyThere, NoShelf, LastShelf, Full}
 use Rattle.placing.specs.declared.acts.Command as told
 use Rattle.placing.specs.declared.acts.Spot.{Spot}
 use Rattle.owner.specs.declared.halls.telling.Failure.{Failure}
-use Rattle.owner.specs.declared.halls.telling.Failure.TheVariants.{Refused as Declined, NoMemory}
-use Rattle.owner.specs.declared.halls.telling.Outcome.{Outcome}
-use Rattle.owner.specs.declared.halls.telling.Outcome.TheVariants.{Put, Refused as Noted}
+use Rattle.owner.specs.declared.halls.telling.Failure.TheVariants.{Refused, NoMemory}
 use Rattle.owner.proofs.Running.{each_more}
-use Rattle.owner.specs.declared.runs.Ending.{Ending}
-use Rattle.owner.specs.declared.runs.Ending.TheVariants.{Done, Refused, Unfinished}
 
 -- some hall is reached
 abbrev pub SomeHall : List ℕ → Type 0
@@ -38,11 +34,11 @@ refusal_some LastShelf = lit< tt
 refusal_some Full = lit< tt
 
 module _ (m m₁ : List ℕ) (c : Command) (ms : List Move) (n : number_of c < 18446744073709551616) (some : SomeHall m) where
-  pub run_kept : (r : Ending) → runs (acts_of c) own m (said c) [] ≡ ran m₁ ms (ending_number r) → SomeHall m₁
-  run_kept Done run = ∥∥₁_map some (λ x. (then_store x.0 c ms, (run_done m m₁ x.0 c ms 0 x.1 n run refl).1))
-  run_kept (Refused why) run =
+  pub run_kept : (r : Option (Result (Unit {0}) Refusal)) → runs (acts_of c) own m (said c) [] ≡ ran m₁ ms (ending_number r) → SomeHall m₁
+  run_kept (Some (Ok _)) run = ∥∥₁_map some (λ x. (then_store x.0 c ms, (run_done m m₁ x.0 c ms 0 x.1 n run refl).1))
+  run_kept (Some (Err why)) run =
       ∥∥₁_map some (λ x. (x.0, subst (λ k. Reached k x.0) (sym (run_refused m m₁ x.0 c ms (refusal_number why) x.1 n run (refusal_some why)).1) x.1))
-  run_kept Unfinished run = ∥∥₁_map some (λ x. absurd (run_ends m m₁ x.0 c ms 1000 x.1 n run refl))
+  run_kept None run = ∥∥₁_map some (λ x. absurd (run_ends m m₁ x.0 c ms 1000 x.1 n run refl))
 
   pub run_not : runs (acts_of c) own m (said c) [] ≡ ran m₁ ms 1000 → ⊥
   run_not run = ∥∥₁_elim some (λ a b. absurd a) (λ x. run_ends m m₁ x.0 c ms 1000 x.1 n run refl)
@@ -60,13 +56,13 @@ pub as_run : (a b : ℕ) (m k m₁ k₁ : List ℕ) (c : Command) (ms : List Mov
 as_run a b m k m₁ k₁ c ms n e f g h = rw (← e, ← f, g) h
 
 -- an answer and the outcome that is noted of it are one
-outcome_answer : (told : Result (Vec Spot Global) Failure) (o : Outcome) → Some o ≡ outcome_from told → answer_of told ≡ answer_as o
-outcome_answer (Ok moves) o e = let q : o ≡ Put moves = cc in rw q refl
-outcome_answer (Err (Declined why)) o e = let q : o ≡ Noted why = cc in rw q refl
-outcome_answer (Err NoMemory) o e = absurd (let z : ◌≡◌ {A = ℕ} 0 1 = cc in omega arith)
+outcome_answer : (told : Result (Vec Spot Global) Failure) (o : Outcome) → Ok o ≡ outcome_from told → answer_of told ≡ answer_as o
+outcome_answer (Ok moves) o e = let q : o ≡ Ok moves = cc in rw q refl
+outcome_answer (Err (Refused why)) o e = let q : o ≡ Err why = cc in rw q refl
+outcome_answer (Err (NoMemory want)) o e = absurd (let z : ◌≡◌ {A = ℕ} 0 1 = cc in omega arith)
 
 pub goes_on : (m m₁ : List ℕ) (os os₁ : List Outcome) (c : Command) (told : Result (Vec Spot Global) Failure) (o : Outcome) →
-    ((s : Store) → Reached m s → Answered s c (answer_of told) × Reached m₁ (hall_then s c (answer_of told))) → Some o ≡ outcome_from told → os₁ ≡ os ++ o ∷ [] →
+    ((s : Store) → Reached m s → Answered s c (answer_of told) × Reached m₁ (hall_then s c (answer_of told))) → Ok o ≡ outcome_from told → os₁ ≡ os ++ o ∷ [] →
     GoesOn m os c m₁ os₁
 goes_on m m₁ os os₁ c told o right e q cs h =
     let x = right h.0 h.2 in

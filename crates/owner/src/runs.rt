@@ -8,21 +8,13 @@ ghost use Rattle.owner.specs.Runs.{moves_of, ending_number};
 
 use placing::{Act, Command, Refusal, Request, Spot, act};
 
-// How a command ended, or that it has not.
-#[derive(Clone, Copy)]
-pub enum Ending {
-    Done,
-    Refused(Refusal),
-    Unfinished,
-}
-
-// Carries out a command in so many acts at most, and adds what it puts to the list.
+// Carries out a command in so many acts at most, and adds what it puts to the list: done, refused, or none if it has not ended.
 pub(crate) fn run(
     memory: &mut [u64],
     command: Command,
     acts: usize,
     moves: &mut Vec<Spot>,
-) -> Ending
+) -> Option<Result<(), Refusal>>
     requires whole { WholeMemory memory.old }
     requires fresh { moves.old.items ≡ [] }
     requires room { acts ≤ vec_capacity moves.old }
@@ -30,18 +22,15 @@ pub(crate) fn run(
     ensures ran { runs acts own memory.old (said (command_of command)) [] ≡ ran memory.new (moves_of moves.new.items) (ending_number result) }
 {
     let mut request = Request::Carry(command);
-    // The proof reads off this call that the number has 64 bits.
+    // The proof reads off this call that the number has 64 bits: of a number within an enum it knows no range.
     let _number = request.number();
     for turn in 0..acts {
-        let Some(done) = act(memory, request) else {
-            return Ending::Unfinished;
-        };
-        match done {
+        match act(memory, request)? {
             Act::Puts(spot) => moves.push_reserved(spot),
-            Act::Done => return Ending::Done,
-            Act::Refused(why) => return Ending::Refused(why),
+            Act::Done => return Some(Ok(())),
+            Act::Refused(why) => return Some(Err(why)),
         }
         request = Request::GoOn;
     }
-    Ending::Unfinished
+    None
 }

@@ -1,19 +1,18 @@
 -- The file format: a step is nine bytes, the kind and then the number, low byte first. Steps follow one another, and reading ends after the first flaw.
-use Rattle.std.specs.Prelude.{◌≡◌, ℕ, ◌+◌, ◌*◌, ◌/◌, ◌%◌, ◌<◌, List, [], ◌∷◌, ◌++◌, length, drop, Some, None, Ok, Err, Option, Result, ◌==◌, nat_lt, slice_index}
+use Rattle.std.specs.Prelude.{◌≡◌, ℕ, ◌+◌, ◌*◌, ◌/◌, ◌%◌, ◌<◌, List, [], ◌∷◌, ◌++◌, length, drop, Some, None, Ok, Err, Option, Result, ◌==◌, nat_lt, slice_index, codes, decimal}
 use Rattle.hall.specs.House.{pick}
 use Rattle.hall.specs.Promise.{number_of}
-use Rattle.placing.specs.Acts.{command_of}
+use Rattle.placing.specs.Acts.{command_of, kind_number, kind_named, kind_in, command_with}
 use Rattle.placing.specs.declared.acts.Command.{Command}
-use Rattle.placing.specs.declared.acts.Command.TheVariants.{GoodComes, GoodGoes, ShelfComes, ShelfGoes, WhereIs}
+use Rattle.placing.specs.declared.acts.Kind.{Kind}
+use Rattle.placing.specs.declared.acts.UnknownKind.{UnknownKind}
 use Rattle.steps.specs.declared.Flaw.{Flaw}
 use Rattle.steps.specs.declared.Flaw.TheVariants.{Torn, BadKind}
 
-abbrev pub kind_of : Command → ℕ
-kind_of (GoodComes n) = 0
-kind_of (GoodGoes n) = 1
-kind_of (ShelfComes n) = 2
-kind_of (ShelfGoes n) = 3
-kind_of (WhereIs n) = 4
+-- what is printed of a flaw
+abbrev pub text_of : Flaw → List ℕ
+text_of Torn = codes "the file ends within it"
+text_of (BadKind kind) = codes "its kind is " ++ (decimal kind ++ codes ", and the highest is 4")
 
 -- the eight bytes of a number, low byte first
 abbrev pub bytes_of : ℕ → List ℕ
@@ -23,7 +22,7 @@ bytes_of n =
 
 -- what is written for a command
 abbrev pub written : Command → List ℕ
-written c = kind_of c ∷ bytes_of (number_of (command_of c))
+written c = kind_number (kind_in c) ∷ bytes_of (number_of (command_of c))
 
 -- the number in the eight bytes after the first, low byte first
 abbrev pub value : List ℕ → ℕ
@@ -32,11 +31,12 @@ value bs =
     + slice_index bs 5 * 4294967296 + slice_index bs 6 * 1099511627776 + slice_index bs 7 * 281474976710656 + slice_index bs 8 * 72057594037927936
 
 -- the command of this kind about this number
+abbrev pub command_of_kind : Result Kind UnknownKind → ℕ → Result Command Flaw
+command_of_kind (Ok kind) n = Ok (command_with kind n)
+command_of_kind (Err unknown) n = Err (BadKind unknown.0)
+
 abbrev pub command_for : ℕ → ℕ → Result Command Flaw
-command_for kind n =
-    pick (kind == 0) (Ok (GoodComes n))
-    (pick (kind == 1) (Ok (GoodGoes n))
-    (pick (kind == 2) (Ok (ShelfComes n)) (pick (kind == 3) (Ok (ShelfGoes n)) (pick (kind == 4) (Ok (WhereIs n)) (Err (BadKind kind))))))
+command_for kind n = command_of_kind (kind_named kind) n
 
 -- the step that the bytes begin with
 abbrev pub step_in : List ℕ → Result Command Flaw

@@ -2,10 +2,11 @@
 #![tactic(auto)]
 
 ghost use Rattle.std.specs.Prelude.{◌≡◌, length, Some};
-ghost use Rattle.steps.specs.Format.{kind_of, written, step_in, left_after, Reads, RoundTrip};
+ghost use Rattle.steps.specs.declared.Flaw.TheVariants.{BadKind};
+ghost use Rattle.steps.specs.Format.{text_of, written, step_in, left_after, Reads, RoundTrip};
 ghost use Rattle.std.specs.Iterator.{at_most};
 
-use placing::Command;
+use placing::{Command, Kind, UnknownKind};
 use std::fmt;
 
 // The bytes of a step.
@@ -18,25 +19,22 @@ pub enum Flaw {
     BadKind(u8),
 }
 
-impl fmt::Display for Flaw {
-    fn fmt<W: fmt::Write>(&self, f: &mut fmt::Formatter<W>) -> fmt::Result {
-        match self {
-            Flaw::Torn => write!(f, "the file ends within it"),
-            Flaw::BadKind(kind) => write!(f, "its kind is {kind}, and the highest is 4"),
-        }
+impl From<UnknownKind> for Flaw {
+    ghost from_gives = { λ unknown result. result ≡ BadKind unknown.0 };
+
+    fn from(unknown: UnknownKind) -> Flaw {
+        Flaw::BadKind(unknown.0)
     }
 }
 
-// The byte for the kind.
-fn kind(command: Command) -> u8
-    ensures { result ≡ kind_of command }
-{
-    match command {
-        Command::GoodComes(_) => 0,
-        Command::GoodGoes(_) => 1,
-        Command::ShelfComes(_) => 2,
-        Command::ShelfGoes(_) => 3,
-        Command::WhereIs(_) => 4,
+impl fmt::Display for Flaw {
+    ghost output = { λ flaw. Some (text_of flaw) };
+
+    fn fmt<W: fmt::Write>(&self, f: &mut fmt::Formatter<W>) -> fmt::Result {
+        match self {
+            Flaw::Torn => f.write_str("the file ends within it"),
+            Flaw::BadKind(kind) => write!(f, "its kind is {kind}, and the highest is 4"),
+        }
     }
 }
 
@@ -45,27 +43,19 @@ pub fn encode(command: Command) -> [u8; STEP]
     ensures { result ≡ written command }
 {
     let [a, b, c, d, e, f, g, h] = command.number().to_le_bytes();
-    [kind(command), a, b, c, d, e, f, g, h]
+    [u8::from(command.kind()), a, b, c, d, e, f, g, h]
 }
 
 // The step that the bytes begin with.
 pub fn decode(bytes: &[u8]) -> Result<Command, Flaw>
     ensures { result ≡ step_in bytes.now }
 {
-    if bytes.len() < STEP {
+    let [kind, a, b, c, d, e, f, g, h, ..] = *bytes else {
         return Err(Flaw::Torn);
-    }
-    let number = u64::from_le_bytes([
-        bytes[1], bytes[2], bytes[3], bytes[4], bytes[5], bytes[6], bytes[7], bytes[8],
-    ]);
-    match bytes[0] {
-        0 => Ok(Command::GoodComes(number)),
-        1 => Ok(Command::GoodGoes(number)),
-        2 => Ok(Command::ShelfComes(number)),
-        3 => Ok(Command::ShelfGoes(number)),
-        4 => Ok(Command::WhereIs(number)),
-        kind => Err(Flaw::BadKind(kind)),
-    }
+    };
+    let kind = Kind::try_from(kind)?;
+    let number = u64::from_le_bytes([a, b, c, d, e, f, g, h]);
+    Ok(Command::new(kind, number))
 }
 
 // What is left of the bytes after the step that they begin with.
@@ -111,7 +101,8 @@ impl<'a> Iterator for Steps<'a> {
 }
 
 // What is written for a list of commands is read back as that list.
-pub fn round_trip_stands()
+pub fn round_trip_stands() -> u8
     ensures { RoundTrip }
 {
+    0
 }

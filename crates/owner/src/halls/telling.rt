@@ -4,37 +4,45 @@ ghost use Rattle.hall.specs.House.{Store};
 ghost use Rattle.machine.specs.Acts.{nothing};
 ghost use Rattle.placing_model.specs.Reached.{Reached, Answered, hall_then, acts_of};
 ghost use Rattle.placing.specs.Acts.{command_of};
+ghost use Rattle.owner.specs.declared.halls.telling.Failure.TheVariants.{NoMemory};
 ghost use Rattle.owner.specs.Halls.{words_of, answer_of, outcome_from, commands_of, AllTold, GoesOn};
 
 use crate::halls::Hall;
-use crate::runs::{Ending, run};
+use crate::runs::run;
 use placing::{Command, Refusal, Spot, WORDS};
 use std::alloc::{AllocError, Global};
+
+// Acts enough for a command that puts a good at most.
+const ACTS_FOR_ONE: usize = 2;
+
+// Acts enough for a shelf that comes or goes: one for each good that there can be, and two.
+const ACTS_FOR_ALL: usize = 32770;
 
 // Why a command was not carried out: it is refused, or there is not memory enough to say what is put.
 #[derive(Clone, Copy)]
 pub enum Failure {
     Refused(Refusal),
-    NoMemory,
+    NoMemory(AllocError),
+}
+
+impl From<AllocError> for Failure {
+    ghost from_gives = { λ want result. result ≡ NoMemory want };
+
+    fn from(want: AllocError) -> Failure {
+        Failure::NoMemory(want)
+    }
 }
 
 // What a command of a list was answered: all that it put, in this order, or why it is refused.
-#[derive(Drop)]
-pub enum Outcome {
-    Put(Vec<Spot>),
-    Refused(Refusal),
-}
+pub type Outcome = Result<Vec<Spot>, Refusal>;
 
 // Acts enough for a command.
 fn acts_for(command: Command) -> usize
     ensures { result ≡ acts_of (command_of command) }
 {
     match command {
-        Command::GoodComes(_) => 2,
-        Command::GoodGoes(_) => 2,
-        Command::ShelfComes(_) => 32770,
-        Command::ShelfGoes(_) => 32770,
-        Command::WhereIs(_) => 2,
+        Command::GoodComes(_) | Command::GoodGoes(_) | Command::WhereIs(_) => ACTS_FOR_ONE,
+        Command::ShelfComes(_) | Command::ShelfGoes(_) => ACTS_FOR_ALL,
     }
 }
 
@@ -53,25 +61,23 @@ impl Hall {
         ensures same { is_ok result ≡ false → words_of self.new ≡ words_of self.old }
     {
         let acts = acts_for(command);
-        let Ok(mut moves) = Vec::with_capacity(heap, acts) else {
-            return Err(Failure::NoMemory);
-        };
+        let mut moves = Vec::with_capacity(heap, acts)?;
         match run(self.memory.as_mut_slice(), command, acts, &mut moves) {
-            Ending::Done => Ok(moves),
-            Ending::Refused(why) => Err(Failure::Refused(why)),
-            Ending::Unfinished => unreachable(),
+            Some(Ok(())) => Ok(moves),
+            Some(Err(why)) => Err(Failure::Refused(why)),
+            None => unreachable!(),
         }
     }
 }
 
-// What an answer is as an outcome; none for want of memory.
-fn outcome_of(told: Result<Vec<Spot>, Failure>) -> Option<Outcome>
+// What an answer is as an outcome; an error for want of memory.
+fn outcome_of(told: Result<Vec<Spot>, Failure>) -> Result<Outcome, AllocError>
     ensures { result ≡ outcome_from told }
 {
     match told {
-        Ok(moves) => Some(Outcome::Put(moves)),
-        Err(Failure::Refused(why)) => Some(Outcome::Refused(why)),
-        Err(Failure::NoMemory) => None,
+        Ok(moves) => Ok(Ok(moves)),
+        Err(Failure::Refused(why)) => Ok(Err(why)),
+        Err(Failure::NoMemory(want)) => Err(want),
     }
 }
 
@@ -84,9 +90,7 @@ fn tell_next(
 ) -> Result<(), AllocError>
     ensures { is_ok result ≡ true → GoesOn (words_of hall.old) outcomes.old.items (command_of command) (words_of hall.new) outcomes.new.items }
 {
-    let Some(outcome) = outcome_of(hall.tell(heap, command)) else {
-        return Err(AllocError);
-    };
+    let outcome = outcome_of(hall.tell(heap, command))?;
     outcomes.push(outcome)?;
     Ok(())
 }

@@ -14,7 +14,7 @@ push_reserved-requires c = let i = c.loop-turn.invariant in omega arith
 pub loop-turn-preserved : goal.loop-turn-preserved
 loop-turn-preserved c =
     let i = c.loop-turn.invariant in
-    let p = runs_puts (c.args.acts - c.loop-turn.turn) (c.args.acts - (c.loop-turn.turn + 1)) _ _ _ _ (omega arith) _ _ c.in-Puts.is c.in-Some.ensures.1 in (
+    let p = runs_puts (c.args.acts - c.loop-turn.turn) (c.args.acts - (c.loop-turn.turn + 1)) _ _ _ _ (omega arith) _ _ c.in-Puts.is c.in_ok-spot.ensures.1 in (
       omega arith,
       omega (arith, c.push_reserved.ensures.len),
       omega (arith, c.push_reserved.ensures.capacity),
@@ -27,7 +27,7 @@ returns-in-Done c =
     let i = c.loop-turn.invariant in
     record {
       small = omega arith;
-      ran = sym i.3 ∙ runs_done (c.args.acts - c.loop-turn.turn) (c.args.acts - suc c.loop-turn.turn) _ _ _ _ (omega arith) _ c.in-Done.is c.in-Some.ensures.1;
+      ran = sym i.3 ∙ runs_done (c.args.acts - c.loop-turn.turn) (c.args.acts - suc c.loop-turn.turn) _ _ _ _ (omega arith) _ c.in-Done.is c.in_ok-spot.ensures.1;
     }
 
 pub returns-in-Refused : goal.returns-in-Refused
@@ -36,11 +36,11 @@ returns-in-Refused c =
     let i = c.loop-turn.invariant in
     record {
       small = omega arith;
-      ran = sym i.3 ∙ runs_refused (c.args.acts - c.loop-turn.turn) (c.args.acts - suc c.loop-turn.turn) _ _ _ _ (omega arith) _ _ c.in-Refused.is c.in-Some.ensures.1;
+      ran = sym i.3 ∙ runs_refused (c.args.acts - c.loop-turn.turn) (c.args.acts - suc c.loop-turn.turn) _ _ _ _ (omega arith) _ _ c.in-Refused.is c.in_ok-spot.ensures.1;
     }
 
-pub returns-in_default : goal.returns-in_default
-returns-in_default c = absurd (c.in_default.ensures.0 c.loop-turn.invariant.0)
+pub returns-in_err-spot : goal.returns-in_err-spot
+returns-in_err-spot c = absurd (c.in_err-spot.ensures.0 c.loop-turn.invariant.0)
 
 pub returns : goal.returns
 returns c =

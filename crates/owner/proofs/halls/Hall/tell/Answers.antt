@@ -14,21 +14,23 @@ invariant_of-self c = record {
 
 pub unreachable-requires : goal.unreachable-requires
 unreachable-requires c =
-    let e = c.in-Unfinished.ensures in
+    let e = c.in-None.ensures in
     run_not _ _ _ _ e.small c.args.self.now.reached (as_run _ _ _ _ _ _ _ _ _ c.acts_for-acts.ensures c.as_mut_slice.ensures.value (with_items_is c.args.self.now.memory c.run.new.memory (omega arith)) e.ran)
 
-pub returns-in-Done : goal.returns-in-Done
-returns-in-Done c =
-    let e = c.in-Done.ensures in
+pub returns-in-Some-Ok : goal.returns-in-Some-Ok
+returns-in-Some-Ok c =
+    let e = c.in-Some-Ok.ensures in
+    let run = as_run _ _ _ _ _ _ _ _ _ c.acts_for-acts.ensures c.as_mut_slice.ensures.value (with_items_is c.args.self.now.memory c.run.new.memory (omega arith)) (rw c.in-Some-Ok.field-0-is at e.ran) in
     record {
-      right = λ s h. run_done _ _ s _ _ 0 h e.small (as_run _ _ _ _ _ _ _ _ _ c.acts_for-acts.ensures c.as_mut_slice.ensures.value (with_items_is c.args.self.now.memory c.run.new.memory (omega arith)) e.ran) refl;
+      right = λ s h. run_done _ _ s _ _ 0 h e.small run refl;
       same = λ q. grind arith;
     }
 
-pub returns-in-Refused : goal.returns-in-Refused
-returns-in-Refused c =
-    let e = c.in-Refused.ensures in
+pub returns-in-Some-Err : goal.returns-in-Some-Err
+returns-in-Some-Err c =
+    let e = c.in-Some-Err.ensures in
+    let run = as_run _ _ _ _ _ _ _ _ _ c.acts_for-acts.ensures c.as_mut_slice.ensures.value (with_items_is c.args.self.now.memory c.run.new.memory (omega arith)) (rw c.in-Some-Err.field-0-is at e.ran) in
     record {
-      right = run_stays _ _ _ _ e.small c.args.self.now.reached _ (refusal_some c.in-Refused.why) (as_run _ _ _ _ _ _ _ _ _ c.acts_for-acts.ensures c.as_mut_slice.ensures.value (with_items_is c.args.self.now.memory c.run.new.memory (omega arith)) e.ran);
-      same = λ q. run_same _ _ _ _ e.small c.args.self.now.reached _ (refusal_some c.in-Refused.why) (as_run _ _ _ _ _ _ _ _ _ c.acts_for-acts.ensures c.as_mut_slice.ensures.value (with_items_is c.args.self.now.memory c.run.new.memory (omega arith)) e.ran);
+      right = run_stays _ _ _ _ e.small c.args.self.now.reached _ (refusal_some c.in-Some-Err.why) run;
+      same = λ q. run_same _ _ _ _ e.small c.args.self.now.reached _ (refusal_some c.in-Some-Err.why) run;
     }
