@@ -4,7 +4,7 @@ use Rattle.std.specs.List.{position, reduce}
 
 -- the first place of the least number of a row
 abbrev pub emptiest_of : List ℕ → Option ℕ
-emptiest_of ks = option_and_then (λ least. position (λ k. k == least) ks) (reduce min ks)
+emptiest_of ks = option_and_then (λ least. position (λ load. load == least) ks) (reduce min ks)
 
 abbrev pub smaller : ℕ → ℕ → ℕ
 smaller a b = cond (nat_lt a b) a b
