@@ -35,7 +35,7 @@ fn carry_out<W: Write>(
             }
         }
         Err(Failure::Refused(why)) => writeln!(out, "{}", Line::Refused(why))?,
-        Err(Failure::NoMemory) => return Err(Trouble::NoMemory(AllocError)),
+        Err(Failure::NoMemory(want)) => return Err(Trouble::NoMemory(want)),
     }
     Ok(())
 }

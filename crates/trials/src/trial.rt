@@ -41,7 +41,7 @@ impl Trial {
         match self.hall.tell(self.heap, command) {
             Ok(moves) => self.carried(command, moves.as_slice()),
             Err(Failure::Refused(why)) => self.refused(command, why),
-            Err(Failure::NoMemory) => Err(Fault::NoMemory(AllocError)),
+            Err(Failure::NoMemory(want)) => Err(Fault::NoMemory(want)),
         }
     }
 
