@@ -3,4 +3,4 @@ use Rattle.std.proofs.lemmas.List.Sorted.{IsPermutation-insert}
 use Rattle.rules.proofs.rule.inserted.Goals as goal
 
 pub returns : goal.returns
-returns c = rw (c.in_ok-insert.ensures.items, c.in_ok-list.ensures.items) (IsPermutation-insert c.args.shelves.now c.partition_point-place.result c.args.shelf)
+returns c = rw (c.in_ok-insert.ensures.items, c.in_ok-list.ensures.items) (IsPermutation-insert _ _ _)
