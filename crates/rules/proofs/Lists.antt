@@ -1,5 +1,5 @@
 -- Lists of shelves: what stands in them, and what an edit makes of them.
-use Rattle.std.proofs.Common.{◌≡◌, ℕ, zero, suc, ◌<◌, ◌≢◌, true, false, List, [], ◌∷◌, length, get_or, Option, Some, None, MatchOption, sym, refl, ◌∙◌, subst, arith}
+use Rattle.std.proofs.Common.{◌≡◌, ℕ, zero, suc, ◌<◌, ◌≢◌, true, false, List, [], ◌∷◌, length, get_or, slice_index_or, Option, Some, None, MatchOption, sym, refl, ◌∙◌, subst, arith}
 use Rattle.std.specs.List.{AllWithin, HoldsAt}
 use Rattle.std.specs.List.Sorted.{IsPermutation}
 use Rattle.std.proofs.lemmas.Bool.{false≢true}
@@ -13,6 +13,13 @@ unfolding any
 has_item [] i k lt e = absurd (omega arith)
 has_item (j ∷ ks) zero k lt e = grind (arith, nat_tests)
 has_item (j ∷ ks) (suc i) k lt e = let ih : has ks k ≡ true = has_item ks i k (omega arith) e in grind arith
+
+-- the same of a slice
+pub has_at : (ks : List ℕ) (i : ℕ) → i < length ks → has ks (slice_index_or ks i 0) ≡ true
+unfolding any
+has_at [] i lt = absurd (omega arith)
+has_at (j ∷ ks) zero lt = grind (arith, nat_tests)
+has_at (j ∷ ks) (suc i) lt = let ih : has ks (slice_index_or ks i 0) ≡ true = has_at ks i (omega arith) in grind arith
 
 has_none : (ks : List ℕ) (k : ℕ) → ((i : ℕ) → i < length ks → get_or ks i 0 ≢ k) → has ks k ≡ false
 unfolding any

@@ -1,4 +1,6 @@
 // By jump consistent hashing: each jump goes on to the place where the good would next move, were there more shelves.
+ghost use Rattle.rules.specs.Shelves.{OneOf};
+
 use crate::{Rule, mix};
 use std::alloc::{AllocError, Global};
 
@@ -28,19 +30,7 @@ impl Rule for Jump {
     }
 
     fn shelf_for(&self, good: u64) -> Option<u64> {
-        let count = self.shelves.len().min(0xffff_ffff) as u64;
-        if count == 0 {
-            return None;
-        }
-        let mut key = mix(good);
-        let mut place = 0u64;
-        let mut next = 0u64;
-        while next < count {
-            place = next;
-            key = key.wrapping_mul(2_862_933_555_777_941_757).wrapping_add(1);
-            next = (place + 1) * 0x8000_0000 / ((key >> 33) + 1);
-        }
-        Some(self.shelves[place as usize])
+        by_jump(self.shelves.as_slice(), good)
     }
 
     fn with(&self, heap: Global, shelf: u64) -> Result<Jump, AllocError> {
@@ -56,4 +46,23 @@ impl Rule for Jump {
         }
         Ok(Jump { shelves: list })
     }
+}
+
+// The first 2^32 - 1 shelves take part, so that no jump outgrows 64 bits. The jumps go as far as they go: no iterator counts them.
+pub fn by_jump(shelves: &[u64], good: u64) -> Option<u64>
+    ensures { OneOf shelves.now result }
+{
+    let count = shelves.len().min(0xffff_ffff) as u64;
+    if count == 0 {
+        return None;
+    }
+    let mut key = mix(good);
+    let mut place = 0u64;
+    let mut next = 0u64;
+    while next < count {
+        place = next;
+        key = key.wrapping_mul(2_862_933_555_777_941_757).wrapping_add(1);
+        next = (place + 1) * 0x8000_0000 / ((key >> 33) + 1);
+    }
+    Some(shelves[place as usize])
 }

@@ -1,5 +1,5 @@
 // How other rules place goods on shelves.
-#![tactic(auto, using(crate::proofs::Lists::has_item))]
+#![tactic(auto, using(crate::proofs::Lists::has_item, crate::proofs::Lists::has_at))]
 
 mod hashing;
 mod jump;
@@ -10,9 +10,9 @@ mod rival;
 mod rule;
 
 pub use hashing::mix;
-pub use jump::Jump;
-pub use remainders::Remainders;
-pub use rendezvous::Rendezvous;
+pub use jump::{Jump, by_jump};
+pub use remainders::{Remainders, by_remainder};
+pub use rendezvous::{Rendezvous, by_rendezvous};
 pub use ring::Ring;
 pub use rival::Rival;
 pub use rule::Rule;

@@ -1,5 +1,5 @@
 // By remainders: the good's number, modulo how many shelves there are, is a place in the list.
-ghost use Rattle.rules.specs.Shelves.{AtRemainder};
+ghost use Rattle.rules.specs.Shelves.{OneOf, AtRemainder};
 
 use crate::Rule;
 use std::alloc::{AllocError, Global};
@@ -31,10 +31,18 @@ impl Rule for Remainders {
     }
 
     fn shelf_for(&self, good: u64) -> Option<u64> {
-        let count = self.shelves.len();
-        if count == 0 {
-            return None;
-        }
-        Some(self.shelves[(good % count as u64) as usize])
+        by_remainder(self.shelves.as_slice(), good)
     }
+}
+
+// The shelf at that place, or none where there is no shelf.
+pub fn by_remainder(shelves: &[u64], good: u64) -> Option<u64>
+    ensures one { OneOf shelves.now result }
+    ensures place { AtRemainder shelves.now good result }
+{
+    let count = shelves.len();
+    if count == 0 {
+        return None;
+    }
+    Some(shelves[(good % count as u64) as usize])
 }

@@ -1,4 +1,6 @@
 // By rendezvous hashing: the shelf whose hash together with the good is the greatest.
+ghost use Rattle.rules.specs.Shelves.{OneOf};
+
 use crate::{Rule, mix};
 use std::alloc::{AllocError, Global};
 
@@ -26,14 +28,17 @@ impl Rule for Rendezvous {
         self.shelves.as_slice()
     }
 
-    // Two shelves never tie, since each step of a score can be undone.
     fn shelf_for(&self, good: u64) -> Option<u64> {
-        let best = self
-            .shelves
-            .iter()
-            .max_by_key(|shelf| score(**shelf, good))?;
-        Some(*best)
+        by_rendezvous(self.shelves.as_slice(), good)
     }
+}
+
+// Two shelves never tie, since each step of a score can be undone.
+pub fn by_rendezvous(shelves: &[u64], good: u64) -> Option<u64>
+    ensures { OneOf shelves.now result }
+{
+    let best = shelves.iter().max_by_key(|shelf| score(**shelf, good))?;
+    Some(*best)
 }
 
 fn score(shelf: u64, good: u64) -> u64 {

@@ -1,6 +1,6 @@
 -- A jump goes on by a factor that is not below one.
 use Rattle.std.proofs.Common.{ℕ, ◌+◌, ◌*◌, ◌/◌, ◌%◌, ◌<◌, ◌≤◌, mul-le-mul_left, le-div_iff_mul-le, arith}
-use Rattle.rules.proofs.jump.JumpRule.shelf_for.Goals as goal
+use Rattle.rules.proofs.jump.by_jump.Goals as goal
 
 further : (n d : ℕ) → 0 < d → d ≤ 2147483648 → n + 1 ≤ (n + 1) * 2147483648 / d
 further n d pos le = (le-div_iff_mul-le pos).1 (mul-le-mul_left (n + 1) le)

@@ -1,6 +1,6 @@
 -- The place is one of the list's, and each jump goes further.
 use Rattle.std.proofs.Common.{◌-◌, ◌^◌, ◌<◌}
-use Rattle.rules.proofs.jump.JumpRule.shelf_for.Given as goal
+use Rattle.rules.proofs.jump.by_jump.Given as goal
 
 abbrev pub invariant-loop-next : goal.invariant-loop-next
 invariant-loop-next l = (l.place < l.count) × (l.key < 2 ^ 64)
