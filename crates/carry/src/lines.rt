@@ -22,7 +22,7 @@ impl fmt::Display for Line {
                 write!(f, "{good} on {shelf}")
             }
             Line::Refused(why) => {
-                let number = why.number();
+                let number = u64::from(why);
                 write!(f, "refused {number}")
             }
         }

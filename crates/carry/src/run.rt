@@ -62,7 +62,7 @@ fn carry_out<W: Write>(
             writeln!(out, "{line}")?;
             Ok(())
         }
-        Err(Failure::NoMemory) => Err(Trouble::NoMemory),
+        Err(Failure::NoMemory(_)) => Err(Trouble::NoMemory),
     }
 }
 

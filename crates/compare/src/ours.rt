@@ -40,7 +40,7 @@ impl Ours {
         let puts = match self.hall.tell(heap, command) {
             Ok(puts) => puts,
             Err(Failure::Refused(_)) => return Ok(Told::Refused),
-            Err(Failure::NoMemory) => return Err(AllocError),
+            Err(Failure::NoMemory(want)) => return Err(want),
         };
         let before = self.assignment.copied(heap)?;
         self.follow(command, puts.as_slice())?;

@@ -1,6 +1,6 @@
 // Memories that no commands lead to: a step on them only has to return.
 use crate::chance::Chance;
-use placing::{Told, WORDS, step};
+use placing::{Act, WORDS, step};
 use std::alloc::{AllocError, Global};
 use std::fmt;
 
@@ -27,11 +27,12 @@ impl Answers {
         }
     }
 
-    fn note(&mut self, told: Told) {
+    // A step that is not taken counts as refused.
+    fn note(&mut self, told: Option<Act>) {
         match told {
-            Told::Put(_) => self.puts = self.puts.saturating_add(1),
-            Told::Done => self.done = self.done.saturating_add(1),
-            Told::No(_) => self.refused = self.refused.saturating_add(1),
+            Some(Act::Puts(_)) => self.puts = self.puts.saturating_add(1),
+            Some(Act::Done) => self.done = self.done.saturating_add(1),
+            Some(Act::Refused(_)) | None => self.refused = self.refused.saturating_add(1),
         }
     }
 }
@@ -45,7 +46,7 @@ fn any_kind(chance: &mut Chance) -> u64 {
     }
 }
 
-fn any_step(memory: &mut [u64], chance: &mut Chance, limit: u64) -> Told {
+fn any_step(memory: &mut [u64], chance: &mut Chance, limit: u64) -> Option<Act> {
     let mut out = [0u64; 2];
     let kind = any_kind(chance);
     let number = chance.below(limit);

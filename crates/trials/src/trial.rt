@@ -47,8 +47,8 @@ impl Trial {
     pub fn step(&mut self, command: Command) -> Result<End, Fault> {
         match self.hall.tell(self.heap, command) {
             Ok(moves) => self.carried(command, moves.as_slice()),
-            Err(Failure::Refused(why)) => self.refused(command, why.number()),
-            Err(Failure::NoMemory) => Err(Fault {
+            Err(Failure::Refused(why)) => self.refused(command, u64::from(why)),
+            Err(Failure::NoMemory(_)) => Err(Fault {
                 what: "out of memory",
             }),
         }
