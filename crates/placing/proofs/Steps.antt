@@ -1,10 +1,10 @@
 -- A whole step, from what its parts ensure.
-use Rattle.std.proofs.Common.{◌≡◌, ℕ, ◌<◌, ◌≤◌, ◌&&◌, eqb, leb, List, [], ◌∷◌, ◌++◌, length, drop, set, Some, None, Option, sym, refl, ap, ◌∙◌, append-nil, length-append, arith}
+use Rattle.std.proofs.Common.{◌≡◌, ℕ, ◌<◌, ◌≤◌, ◌&&◌, eqb, leb, List, ◌∷◌, ◌++◌, length, Some, None, Option, sym, refl, ap, ◌∙◌, append-nil, length-append, arith}
 use Rattle.std.proofs.lemmas.Bool.{and_from, eq-eqb, le-leb, and_parts, eqb-true, leb-true}
 use Rattle.words.specs.Parts.{flat}
 use Rattle.words.proofs.Cases.{by_test}
 use Rattle.hall.specs.Promise.{Event}
-use Rattle.machine.specs.Machine.{State, turn_of}
+use Rattle.machine.specs.Machine.{State, turn, turn_of}
 use Rattle.machine.specs.Lifting.{event_number}
 use Rattle.machine.specs.Keeping.{Kept}
 use Rattle.placing_model.specs.Parts.{parts}
@@ -22,9 +22,9 @@ joined_is : (p x : ℕ) (g s l k : List ℕ) → joined (state_in p x g s l k) �
 unfolding joined flat
 joined_is p x g s l k = ap (λ r. p ∷ x ∷ (g ++ (s ++ (l ++ r)))) (append-nil k)
 
-own_takes : (s s₁ : State parts) (a : Act) (ev : Event) → Kept parts Sizes s → event_number ev < 18446744073709551616 → s₁ ≡ (turn_of parts s ev).state → act_of a ≡ (turn_of parts s ev).act →
+own_takes : (s s₁ : State parts) (a : Act) (ev : Event) → Kept parts Sizes s → event_number ev < 18446744073709551616 → turn parts s₁ (act_of a) ≡ turn_of parts s ev →
     own.step (joined s) ev ≡ record { memory = joined s₁; act = act_of a }
-own_takes s s₁ a ev k n left says = own_step (joined s) ev (joined_length s k) n ∙ rw (cut_joined s k, left, says) refl
+own_takes s s₁ a ev k n taken = own_step (joined s) ev (joined_length s k) n ∙ rw (cut_joined s k, ← taken) refl
 
 -- a memory, cut into its registers and parts one after the other
 cut_up : (m r₁ r₂ r₃ r₄ : List ℕ) (p x : ℕ) (g s l k : List ℕ) → m ≡ p ∷ r₁ → r₁ ≡ x ∷ r₂ → r₂ ≡ g ++ r₃ → r₃ ≡ s ++ r₄ → r₄ ≡ l ++ k → m ≡ p ∷ x ∷ (g ++ (s ++ (l ++ k)))
@@ -34,22 +34,16 @@ cut_up m r₁ r₂ r₃ r₄ p x g s l k e₁ e₂ e₃ e₄ e₅ = rw (e₁, e�
 pub acts_in : (m r₁ r₂ r₃ r₄ : List ℕ) (p x p₁ x₁ : ℕ) (g s l k g₁ s₁ l₁ k₁ : List ℕ) (a : Act) (ev : Event) →
     m ≡ p ∷ r₁ → r₁ ≡ x ∷ r₂ → r₂ ≡ g ++ r₃ → r₃ ≡ s ++ r₄ → r₄ ≡ l ++ k → length m ≡ 239635 → length g ≡ 131078 → length s ≡ 4102 → length l ≡ 5121 →
     event_number ev < 18446744073709551616 →
-    state_in p₁ x₁ g₁ s₁ l₁ k₁ ≡ (turn_of parts (state_in p x g s l k) ev).state → act_of a ≡ (turn_of parts (state_in p x g s l k) ev).act →
+    turn parts (state_in p₁ x₁ g₁ s₁ l₁ k₁) (act_of a) ≡ turn_of parts (state_in p x g s l k) ev →
     WholeMemory m × (own.step m ev ≡ record { memory = p₁ ∷ x₁ ∷ (g₁ ++ (s₁ ++ (l₁ ++ k₁))); act = act_of a })
-acts_in m r₁ r₂ r₃ r₄ p x p₁ x₁ g s l k g₁ s₁ l₁ k₁ a ev e₁ e₂ e₃ e₄ e₅ h hg hs hl n left says =
+acts_in m r₁ r₂ r₃ r₄ p x p₁ x₁ g s l k g₁ s₁ l₁ k₁ a ev e₁ e₂ e₃ e₄ e₅ h hg hs hl n taken =
     let e = cut_up m r₁ r₂ r₃ r₄ p x g s l k e₁ e₂ e₃ e₄ e₅ in
     let hm : length (p ∷ x ∷ (g ++ (s ++ (l ++ k)))) ≡ 239635 = ap length (sym e) ∙ h in
     let hk : length k ≡ 99332 = omega (arith, hm, length-append g (s ++ (l ++ k)), length-append s (l ++ k), length-append l k) in (
       h,
       rw (e, ← joined_is p x g s l k, ← joined_is p₁ x₁ g₁ s₁ l₁ k₁)
-          (own_takes _ _ a ev (record { phase = tt; subject = tt; goods = hg; shelves = hs; loads = hl; contents = hk }) n left says),
+          (own_takes _ _ a ev (record { phase = tt; subject = tt; goods = hg; shelves = hs; loads = hl; contents = hk }) n taken),
     )
-
--- the row, after the good and the shelf are written into it
-pub row_told : (out : List ℕ) (g k : ℕ) → 2 ≤ length out → set (set out 0 g) 1 k ≡ g ∷ k ∷ drop 2 out
-row_told [] g k h = absurd (omega arith)
-row_told (x ∷ []) g k h = absurd (omega arith)
-row_told (x ∷ y ∷ out) g k h = refl
 
 fits_is : (m : List ℕ) (k : ℕ) (out : List ℕ) → step_fits m k out ≡ (eqb (length m) 239635 && (leb k 5 && leb 2 (length out)))
 unfolding step_fits own

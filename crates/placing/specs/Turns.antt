@@ -1,6 +1,6 @@
 -- The state that a lent memory holds, and what a turn of the code leaves of it.
 use Rattle.std.specs.Prelude.{◌≡◌, ℕ, List, [], ◌∷◌}
-use Rattle.machine.specs.Machine.{State, Turn}
+use Rattle.machine.specs.Machine.{State, Turn, turn}
 use Rattle.placing_model.specs.Parts.{parts}
 use Rattle.placing.specs.Acts.{act_of}
 use Rattle.placing.specs.declared.acts.Act.{Act}
@@ -25,5 +25,4 @@ pub record Changed (m m₁ : Machine) (s : State parts) : Type 0 where
 -- a function of the code took this turn: what it left in the same words, and what it says
 pub record Takes (m : Machine) (r : Act) (m₁ : Machine) (t : Turn parts) : Type 0 where
   pub same : lent m₁ ≡ lent m
-  pub left : state_of m₁ ≡ t.state
-  pub says : act_of r ≡ t.act
+  pub taken : turn parts (state_of m₁) (act_of r) ≡ t

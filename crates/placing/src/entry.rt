@@ -1,6 +1,6 @@
 // One step of the machine in a lent memory; also on plain numbers, with a lent row for the answer.
 ghost use Rattle.std.specs.Prelude.{◌≡◌, ◌≤◌, length};
-ghost use Rattle.machine.specs.Machine.{turn_of};
+ghost use Rattle.machine.specs.Machine.{turn, turn_of};
 ghost use Rattle.placing_model.specs.Parts.{parts};
 ghost use Rattle.placing.specs.Acts.{act_of, event_of_request};
 ghost use Rattle.placing.specs.Turns.{state_in};
@@ -60,8 +60,7 @@ fn react(
     contents: &mut [u64],
     request: Request,
 ) -> Act
-    ensures left { state_in phase.new subject.new goods.new shelves.new loads.new contents.new ≡ (turn_of parts (state_in phase.old subject.old goods.old shelves.old loads.old contents.old) (event_of_request request)).state }
-    ensures says { act_of result ≡ (turn_of parts (state_in phase.old subject.old goods.old shelves.old loads.old contents.old) (event_of_request request)).act }
+    ensures { turn parts (state_in phase.new subject.new goods.new shelves.new loads.new contents.new) (act_of result) ≡ turn_of parts (state_in phase.old subject.old goods.old shelves.old loads.old contents.old) (event_of_request request) }
 {
     let mut machine = Machine {
         phase,

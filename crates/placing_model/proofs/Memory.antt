@@ -1,11 +1,10 @@
 -- A memory and the state that it holds: cutting and joining lose nothing.
-use Rattle.std.proofs.Common.{◌≡◌, ℕ, zero, suc, ◌+◌, ◌<◌, ◌≤◌, List, [], ◌∷◌, ◌++◌, length, get_or, set, refl, ap, ◌∙◌, arith, lit<, lit≤}
-use borrow.Rule.Slice.PartMut.{put_mid}
+use Rattle.std.proofs.Common.{◌≡◌, ℕ, zero, suc, ◌+◌, ◌<◌, List, [], ◌∷◌, ◌++◌, length, get_or, refl, ap, ◌∙◌, arith}
 use Rattle.words.specs.Small.{Small}
-use Rattle.words.specs.Parts.{part, cuts, flat, start, end, lengths, AllFit}
+use Rattle.words.specs.Parts.{part, cuts, flat, end, lengths, AllFit}
 use Rattle.words.proofs.Laws.{length_part, small_part}
-use Rattle.words.proofs.Cuts.{cuts_put, cuts_flat, flat_cuts, length_flat_end, fit_flat}
-use Rattle.machine.specs.Machine.{State, at_phase, start as begin}
+use Rattle.words.proofs.Cuts.{cuts_flat, flat_cuts, length_flat_end, fit_flat}
+use Rattle.machine.specs.Machine.{State, start as begin}
 use Rattle.machine.specs.Keeping.{Property, Kept}
 use Rattle.placing_model.specs.Parts.{parts, zeros}
 use Rattle.placing_model.specs.Memory.{sizes, listed, named, cut, joined}
@@ -118,22 +117,3 @@ unfolding joined flat
 joined_zeros =
     zeros_more 239633 239635 _
     (zeros_then 131078 108555 239633 _ (zeros_then 4102 104453 108555 _ (zeros_then 5121 99332 104453 _ (zeros_then 99332 0 99332 _ zeros_none refl) refl) refl) refl) refl
-
--- after a call on the i-th region: zs is what the call ensures of it
-pub cut_region : (i : ℕ) (m ys zs : List ℕ) → i < 5 → start 0 sizes i + get_or sizes i 0 ≤ 239635 → length m ≡ 239635 → length ys ≡ get_or sizes i 0 → ys ≡ zs →
-    cut (put_mid (start 0 sizes i) (get_or sizes i 0) m ys) ≡ named (set (cuts 0 sizes m) i zs)
-unfolding cut
-cut_region i m ys zs l f h k e = ap named (cuts_put 0 sizes m ys i l (omega arith) k) ∙ ap (λ t. named (set (cuts 0 sizes m) i t)) e
-
--- after both registers are set
-two_set : (r : List ℕ) (p x : ℕ) → length r ≡ 2 → set (set r 0 p) 1 x ≡ p ∷ x ∷ []
-two_set [] p x h = absurd (omega arith)
-two_set (a ∷ []) p x h = absurd (omega arith)
-two_set (a ∷ b ∷ []) p x h = refl
-two_set (a ∷ b ∷ c ∷ r) p x h = absurd (omega arith)
-
-pub cut_registers : (m ys : List ℕ) (p x : ℕ) → length m ≡ 239635 → length ys ≡ 2 → ys ≡ set (set (part 0 2 m) 0 p) 1 x →
-    cut (put_mid 0 2 m ys) ≡ at_phase parts (cut m) p x
-unfolding cut cuts
-cut_registers m ys p x h l e =
-    cut_region 0 m ys (p ∷ x ∷ []) (lit< tt) (lit≤ tt) h l (e ∙ two_set (part 0 2 m) p x (length_part 0 2 m (omega arith)))

@@ -12,7 +12,6 @@ use Rattle.placing_model.specs.Parts.{parts}
 use Rattle.placing_model.specs.Own.{own}
 use Rattle.placing_model.specs.Reached.{Reached, Answer, putting, refusing, Answered, hall_then, CarriedOut, acts_of}
 use Rattle.placing_model.proofs.Laws.{lawful}
-use Rattle.placing_model.proofs.Memory.{joined_length}
 use Rattle.placing_model.proofs.Own.{own_lifts}
 
 -- a memory that is reached holds its hall
@@ -22,10 +21,6 @@ reached_good m s r = rw (r.memory_is, r.store_is) (after_good parts lawful own o
 pub reached_start : Reached own.start nothing
 unfolding every memory_after store_after
 reached_start = record { told = []; words = refl; memory_is = refl; store_is = refl }
-
-pub reached_length : (m : List ℕ) (s : Store) → Reached m s → length m ≡ 239635
-unfolding own_lifts
-reached_length m s r = let k = (reached_good m s r).keeps in ap length k.is_joined ∙ joined_length k.state k.fits
 
 -- the acts are enough
 acts_enough : (m : List ℕ) (s : Store) (c : Command) → Good parts lawful own own_lifts m s → puts_of s c < acts_of c

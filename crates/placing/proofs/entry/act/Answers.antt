@@ -10,5 +10,4 @@ pub returns : goal.returns
 returns c =
     acts_in _ _ _ _ _ _ _ _ _ _ _ _ _ _ _ _ _ _ _ c.in_ok-memory.ensures.cases.0 c.in_ok-rest.ensures.cases.0 c.split_at_mut-goods.ensures.value
     c.split_at_mut-shelves.ensures.value c.split_at_mut-loads.ensures.value (omega arith) c.split_at_mut-goods.ensures.front_len
-    c.split_at_mut-shelves.ensures.front_len c.split_at_mut-loads.ensures.front_len (omega (arith, c.number-number.ensures)) c.react.ensures.left
-    c.react.ensures.says
+    c.split_at_mut-shelves.ensures.front_len c.split_at_mut-loads.ensures.front_len (omega (arith, c.number-number.ensures)) c.react.ensures
