@@ -27,6 +27,7 @@ impl Rule for Jump {
         self.shelves.as_slice()
     }
 
+    #[tactic(auto, using(crate::proofs::Lists::has_item))]
     fn shelf_for(&self, good: u64) -> Option<u64> {
         let count = self.shelves.len().min(0xffff_ffff) as u64;
         if count == 0 {

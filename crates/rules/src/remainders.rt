@@ -30,6 +30,7 @@ impl Rule for Remainders {
         self.shelves.as_slice()
     }
 
+    #[tactic(auto, using(crate::proofs::Lists::has_item))]
     fn shelf_for(&self, good: u64) -> Option<u64> {
         let count = self.shelves.len();
         if count == 0 {

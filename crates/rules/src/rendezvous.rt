@@ -27,6 +27,7 @@ impl Rule for Rendezvous {
     }
 
     // Two shelves never tie, since each step of a score can be undone.
+    #[tactic(auto, using(crate::proofs::Lists::has_item))]
     fn shelf_for(&self, good: u64) -> Option<u64> {
         let best = self
             .shelves
