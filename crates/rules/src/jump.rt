@@ -49,6 +49,7 @@ impl Rule for Jump {
 }
 
 // The first 2^32 - 1 shelves take part, so that no jump outgrows 64 bits. The jumps go as far as they go: no iterator counts them.
+#[tactic(auto, using(crate::proofs::Lists::has_at))]
 pub fn by_jump(shelves: &[u64], good: u64) -> Option<u64>
     ensures { OneOf shelves.now result }
 {

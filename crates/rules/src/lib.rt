@@ -1,5 +1,5 @@
 // How other rules place goods on shelves.
-#![tactic(auto, using(crate::proofs::Lists::has_item, crate::proofs::Lists::has_at))]
+#![tactic(auto)]
 
 mod hashing;
 mod jump;

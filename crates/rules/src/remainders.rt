@@ -36,6 +36,7 @@ impl Rule for Remainders {
 }
 
 // The shelf at that place, or none where there is no shelf.
+#[tactic(auto, using(crate::proofs::Lists::has_at))]
 pub fn by_remainder(shelves: &[u64], good: u64) -> Option<u64>
     ensures one { OneOf shelves.now result }
     ensures place { AtRemainder shelves.now good result }

@@ -34,6 +34,7 @@ impl Rule for Rendezvous {
 }
 
 // Two shelves never tie, since each step of a score can be undone.
+#[tactic(auto, using(crate::proofs::Lists::has_item))]
 pub fn by_rendezvous(shelves: &[u64], good: u64) -> Option<u64>
     ensures { OneOf shelves.now result }
 {

@@ -1,9 +1,9 @@
 // A rule that is carried out beside the machine: its shelves, and where it has the goods.
-ghost use Rattle.std.specs.Prelude.{◌≡◌, ℕ, false, [], IfOk, MatchResult, ◌==◌};
+ghost use Rattle.std.specs.Prelude.{◌≡◌, ℕ, [], Option, IfOk, MatchResult, ◌==◌};
 ghost use Rattle.hall.specs.House.{pick};
 ghost use Rattle.assignments.specs.Carried.{Carried};
 ghost use Rattle.assignments.specs.Spots.{shelf_in};
-ghost use Rattle.rules.specs.Shelves.{OneOf, Comes, Goes};
+ghost use Rattle.rules.specs.Shelves.{OneOf, Comes, Goes, Placed};
 
 use crate::Rule;
 use assignments::{Assignment, carried};
@@ -47,9 +47,11 @@ impl<R: Rule> Rival<R> {
         self.rule.shelf_for(good)
     }
 
-    // No other good is carried.
+    // Without memory nothing changes.
     pub fn good_comes(&mut self, good: u64) -> Result<(), AllocError>
-        ensures { IfOk result (λ _. (g : ℕ) → (g == good) ≡ false → shelf_in self.new.assignment g ≡ shelf_in self.old.assignment g) }
+        ensures { MatchResult result
+            (λ _. (s : Option ℕ) × R.gives self.old.rule good s × Placed self.old.assignment self.new.assignment good s)
+            (λ _. self.new ≡ self.old) }
     {
         let Some(shelf) = self.shelf_for(good) else {
             return Ok(());
