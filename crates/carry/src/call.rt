@@ -23,7 +23,7 @@ pub enum Misuse {
     Unreadable(#[from] io::Error),
 }
 
-// The arguments begin with the program's name.
+// The arguments begin with the program's name. Each program reads its own: no two have a word in common but `--help`.
 pub fn call_of(args: Args) -> Result<Call, Misuse> {
     let mut call = Err(Misuse::NoFile);
     for word in args.skip(1) {

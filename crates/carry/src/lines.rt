@@ -5,6 +5,7 @@ ghost use Rattle.carry.specs.Lines.{line_of};
 use placing::{Refusal, Spot};
 use std::fmt;
 
+// An enum of its own: `Display` can't be written for a `Result` of the library.
 #[derive(Clone, Copy)]
 pub enum Line {
     Put(Spot),

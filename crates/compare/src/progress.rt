@@ -9,6 +9,7 @@ const STRIDE: usize = 256;
 pub struct Progress {
     // When the pass began; none where nobody would see the line.
     start: Option<Instant>,
+    // Whether a line stands there that `end` has to take away.
     shown: bool,
 }
 

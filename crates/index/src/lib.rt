@@ -96,7 +96,7 @@ fn row<const BITS: u64>(slot: u64) -> u64
     heads::<BITS>() + 3 + 3 * slot
 }
 
-// One of a slot's two links.
+// One of a slot's two links. The side is a bit of a key, and no enum: it is added to the place.
 fn child<const BITS: u64>(slot: u64, side: u64) -> u64
     requires { (slot < 2 ^ 60) × (side < 2) }
     ensures is { result ≡ child BITS slot side }

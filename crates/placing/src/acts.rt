@@ -149,7 +149,8 @@ impl Command {
     }
 }
 
-// What a step is asked for: a command, or to go on with the one that is under way.
+// What a step is asked for: a command, or to go on with the one that is under way. No `Option`: a bare `None` would not
+// say that the step goes on.
 #[derive(Clone, Copy)]
 pub enum Request {
     Carry(Command),

@@ -37,6 +37,7 @@ fn tell(act: Act, out: &mut [u64])
 
 // One step: kind 0 a good comes, 1 a good goes, 2 a shelf comes, 3 a shelf goes, 4 where is a good, 5 go on.
 // None, and nothing changed, where the memory has another length, the kind is above 5 or the row is too short.
+// The kind is a number and the answer stands in a lent row for hosts that have no more than words; `act` takes and gives enums.
 pub fn step(memory: &mut [u64], kind: u64, number: u64, out: &mut [u64]) -> Option<Act>
     ensures { StepSays memory.old kind number out.old (step_fits memory.old kind out.old) result memory.new out.new }
 {

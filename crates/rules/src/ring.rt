@@ -55,7 +55,7 @@ impl Rule for Ring {
     }
 }
 
-// The points of the shelves, in ascending order.
+// The points of the shelves, in ascending order. By a `for`: each push may fail.
 fn points_of(heap: Global, shelves: &[u64]) -> Result<Vec<Point>, AllocError>
     ensures count { IfOk result (λ points. length points.items ≡ 128 * length shelves.now) }
     ensures of_shelves { IfOk result (λ points. All (λ p. has shelves.now p.shelf ≡ true) points.items) }

@@ -96,7 +96,7 @@ impl<R: Rule> Rival<R> {
     }
 }
 
-// Each of these goods, where the rule has it.
+// Each of these goods, where the rule has it. By a `for`: each put may fail.
 fn assigned<R: Rule>(heap: Global, rule: &R, spots: &[Spot]) -> Result<Assignment, AllocError> {
     let mut next = Assignment::new(heap);
     for spot in spots {

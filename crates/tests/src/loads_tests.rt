@@ -7,6 +7,7 @@ use words::{read, write};
 
 #[derive(Clone, Copy, Default)]
 struct Shelf {
+    // No `Option` of a load: a shelf that is not there may have one, as in the memory.
     there: bool,
     load: u64,
 }

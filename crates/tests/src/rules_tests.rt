@@ -22,14 +22,12 @@ fn filled<R: Rule>(heap: Global) -> Result<Rival<R>, AllocError> {
 }
 
 // How many goods are neither where they were nor on the one shelf.
-fn strays(before: &Assignment, after: &Assignment, shelf: u64) -> u64 {
-    let mut count = 0u64;
-    for spot in after.spots() {
-        if spot.shelf != shelf && before.shelf_of(spot.good) != Some(spot.shelf) {
-            count = count.saturating_add(1);
-        }
-    }
-    count
+fn strays(before: &Assignment, after: &Assignment, shelf: u64) -> usize {
+    after
+        .spots()
+        .iter()
+        .filter(|spot| spot.shelf != shelf && before.shelf_of(spot.good) != Some(spot.shelf))
+        .count()
 }
 
 // A consistent rule gives goods to a shelf that comes, about its share of them, and moves no other.

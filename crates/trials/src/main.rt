@@ -12,7 +12,7 @@ mod trial;
 
 use chance::Numbers;
 use fault::Fault;
-use garbage::{garbage, spoiled};
+use garbage::{Answers, garbage, spoiled};
 use long::{Stop, long_run};
 use placing::{Command, Refusal};
 use small::{Found, Search};
@@ -113,18 +113,16 @@ fn long_halls(rt: &HostRuntime, numbers: Numbers, seed: u64) -> Result<(), Faile
     Ok(())
 }
 
-fn garbage_memories(rt: &HostRuntime, limit: u64) -> Result<(), Failed> {
+// Three runs of one kind of garbage, each by another seed.
+fn print_garbage<F: Fn(u64) -> Result<Answers, AllocError> + Drop>(
+    rt: &HostRuntime,
+    what: &impl fmt::Display,
+    answers: F,
+) -> Result<(), Failed>
+    requires { F.IsAlwaysCallable answers }
+{
     for seed in 1..4 {
-        let answers = garbage(rt.alloc(), seed, limit, 3000)?;
-        println!(rt; "garbage, words below {limit}, seed {seed}: {answers}")?;
-    }
-    Ok(())
-}
-
-fn spoiled_memories(rt: &HostRuntime) -> Result<(), Failed> {
-    for seed in 1..4 {
-        let answers = spoiled(rt.alloc(), seed, 100000)?;
-        println!(rt; "garbage, spoiled step by step, seed {seed}: {answers}")?;
+        println!(rt; "garbage, {what}, seed {seed}: {}", answers(seed)?)?;
     }
     Ok(())
 }
@@ -136,10 +134,14 @@ fn all_trials(rt: &HostRuntime) -> Result<(), Failed> {
     long_halls(rt, Numbers::Random, 2)?;
     long_halls(rt, Numbers::SameLowBits, 3)?;
     long_halls(rt, Numbers::Highest, 4)?;
-    garbage_memories(rt, 5)?;
-    garbage_memories(rt, 40000)?;
-    garbage_memories(rt, u64::MAX)?;
-    spoiled_memories(rt)
+    for limit in [5, 40000, u64::MAX] {
+        print_garbage(rt, &format_args!("words below {limit}"), |seed| {
+            garbage(rt.alloc(), seed, limit, 3000)
+        })?;
+    }
+    print_garbage(rt, &"spoiled step by step", |seed| {
+        spoiled(rt.alloc(), seed, 100000)
+    })
 }
 
 fn main(rt: HostRuntime) -> ExitCode {

@@ -79,10 +79,6 @@ impl Model {
         self.loads.values().copied().max().unwrap_or(0)
     }
 
-    fn lowest_load(&self) -> u64 {
-        self.loads.values().copied().min().unwrap_or(0)
-    }
-
     // How many goods have to be put: for a good that goes one, just where another shelf has one more than its own.
     fn puts(&self, command: Command) -> u64 {
         let goods = self.stands.len() as u64;
@@ -159,7 +155,8 @@ impl Model {
             expect(self.load(shelf) == 0, "a good is left on a shelf that goes")?;
             self.loads.remove(&shelf);
         }
-        let level = self.highest_load().saturating_sub(self.lowest_load()) < 2;
+        let lowest = self.loads.values().copied().min().unwrap_or(0);
+        let level = self.highest_load().saturating_sub(lowest) < 2;
         expect(level, "a shelf has two more than another")
     }
 
