@@ -11,5 +11,8 @@ started : (m : List ℕ) → m ≡ replicate 239635 0 → Reached m nothing
 unfolding own zeros
 started m e = subst (λ k. Reached k nothing) (sym e) reached_start
 
+pub invariant_of-result : goal.invariant_of-result
+invariant_of-result c = let e = c.in_ok-memory.ensures in record { whole = e.len; reached = ∣ (nothing, started _ (e.items_if_clones_equal (λ y q. q))) ∣₁ }
+
 pub returns : goal.returns
 returns c = started _ (c.in_ok-memory.ensures.items_if_clones_equal (λ y q. q))
