@@ -116,7 +116,7 @@ fn long_halls(rt: &HostRuntime, numbers: Numbers, seed: u64) -> Result<(), Faile
 // Three runs of one kind of garbage, each by another seed.
 fn print_garbage<F: Fn(u64) -> Result<Answers, AllocError> + Drop>(
     rt: &HostRuntime,
-    what: &impl fmt::Display,
+    what: &str,
     answers: F,
 ) -> Result<(), Failed>
     requires { F.IsAlwaysCallable answers }
@@ -134,13 +134,15 @@ fn all_trials(rt: &HostRuntime) -> Result<(), Failed> {
     long_halls(rt, Numbers::Random, 2)?;
     long_halls(rt, Numbers::SameLowBits, 3)?;
     long_halls(rt, Numbers::Highest, 4)?;
+    let heap = rt.alloc();
     for limit in [5, 40000, u64::MAX] {
-        print_garbage(rt, &format_args!("words below {limit}"), |seed| {
-            garbage(rt.alloc(), seed, limit, 3000)
+        let what = format!(in heap; "words below {limit}")?;
+        print_garbage(rt, what.as_str(), move |seed| {
+            garbage(heap, seed, limit, 3000)
         })?;
     }
-    print_garbage(rt, &"spoiled step by step", |seed| {
-        spoiled(rt.alloc(), seed, 100000)
+    print_garbage(rt, "spoiled step by step", move |seed| {
+        spoiled(heap, seed, 100000)
     })
 }
 
