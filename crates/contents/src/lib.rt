@@ -187,6 +187,8 @@ impl<M: AsSlice<u64>> Contents<M> {
     }
 }
 
+// Each change says that the same words stay lent: a struct over lent words can't promise that for all its methods. What
+// holds of sound words alone has that as a premise, since any words are taken.
 // Each change reborrows the lent slice once: of a field that is passed on as `&[u64]`, a proof keeps the length alone.
 impl Contents<&mut [u64]> {
     // Puts a good that is on no shelf in front of the others of a shelf; where there is no such good

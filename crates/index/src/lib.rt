@@ -260,6 +260,8 @@ impl<M: AsSlice<u64>, const BITS: u64> Index<M, BITS> {
     }
 }
 
+// Each change says that the same words stay lent: a struct over lent words can't promise that for all its methods. What
+// holds of sound words alone has that as a premise, since any words are taken.
 impl<const BITS: u64> Index<&mut [u64], BITS> {
     // Takes a new number in, at the slot that is told; nothing changes where it is there or there is no room.
     #[tactic(auto, using(index_model::proofs::Tells::insert_tells), unfolding(index_model::specs::Model::find_at, index_model::specs::Model::insert_slot, index_model::specs::Model::insert_in))]

@@ -195,6 +195,7 @@ impl<M: AsSlice<u64>> Loads<M> {
     }
 }
 
+// Each change says that the same words stay lent: a struct over lent words can't promise that for all its methods.
 impl Loads<&mut [u64]> {
     // The shelf is there, with load 0; at what is no slot nothing is changed.
     pub fn enter(&mut self, slot: u64)

@@ -12,84 +12,80 @@ struct Spot {
     good: u64,
 }
 
-// Whether the walk, the links and the count give the goods of the shelf and no other, the newest first;
-// in the list it is last.
-fn agrees(contents: &Contents<&mut [u64]>, spots: &[Spot], shelf: u64) -> bool {
-    let mut walk = contents.walk(shelf);
-    let mut link = contents.first(shelf);
-    for spot in spots.iter().rev().filter(|spot| spot.shelf == shelf) {
-        if walk.next() != Some(spot.good) || link != Some(spot.good) {
-            return false;
+// The contents, and a plain list of the same goods; the newest is last.
+#[derive(Drop)]
+struct Both<'a> {
+    contents: Contents<&'a mut [u64]>,
+    spots: Vec<Spot>,
+}
+
+impl Both<'_> {
+    // Whether the walk, the links and the count give the goods of the shelf and no other, the newest first.
+    fn agrees(&self, shelf: u64) -> bool {
+        let mut walk = self.contents.walk(shelf);
+        let mut link = self.contents.first(shelf);
+        for spot in self.spots.iter().rev().filter(|spot| spot.shelf == shelf) {
+            if walk.next() != Some(spot.good) || link != Some(spot.good) {
+                return false;
+            }
+            link = self.contents.next(spot.good);
         }
-        link = contents.next(spot.good);
+        let count = self.spots.iter().filter(|spot| spot.shelf == shelf).count();
+        walk.next() == None && link == None && self.contents.count(shelf) == count as u64
     }
-    let count = spots.iter().filter(|spot| spot.shelf == shelf).count();
-    walk.next() == None && link == None && contents.count(shelf) == count as u64
-}
 
-// Takes the good from its shelf, or puts it on this one; then compares.
-fn turn(
-    rt: &impl Abort,
-    contents: &mut Contents<&mut [u64]>,
-    spots: &mut Vec<Spot>,
-    shelf: u64,
-    good: u64,
-) -> Result<(), Fail> {
-    if let Some(i) = spots.iter().position(|spot| spot.good == good) {
-        let spot = spots.remove(i);
-        assert!(rt; contents.shelf_of(good) == Some(spot.shelf));
-        contents.remove(good);
-        assert!(rt; contents.shelf_of(good) == None);
-        assert!(rt; agrees(contents, spots, spot.shelf));
-    } else {
-        assert!(rt; contents.shelf_of(good) == None);
-        contents.add(shelf, good);
-        spots.push(Spot { shelf, good })?;
-        assert!(rt; contents.shelf_of(good) == Some(shelf));
-        assert!(rt; contents.first(shelf) == Some(good));
-        assert!(rt; agrees(contents, spots, shelf));
+    // Takes the good from its shelf, or puts it on this one; then compares.
+    fn turn(&mut self, rt: &impl Abort, shelf: u64, good: u64) -> Result<(), Fail> {
+        if let Some(i) = self.spots.iter().position(|spot| spot.good == good) {
+            let spot = self.spots.remove(i);
+            assert!(rt; self.contents.shelf_of(good) == Some(spot.shelf));
+            self.contents.remove(good);
+            assert!(rt; self.contents.shelf_of(good) == None);
+            assert!(rt; self.agrees(spot.shelf));
+        } else {
+            assert!(rt; self.contents.shelf_of(good) == None);
+            self.contents.add(shelf, good);
+            self.spots.push(Spot { shelf, good })?;
+            assert!(rt; self.contents.shelf_of(good) == Some(shelf));
+            assert!(rt; self.contents.first(shelf) == Some(good));
+            assert!(rt; self.agrees(shelf));
+        }
+        Ok(())
     }
-    Ok(())
-}
-
-fn turns(
-    rt: &impl Abort,
-    memory: &mut [u64],
-    spots: &mut Vec<Spot>,
-    seed: u64,
-) -> Result<(), Fail> {
-    let shelves = [1u64, 2, 3, 511, 1023, 1024];
-    let mut contents = Contents { memory };
-    for random in Random::new(seed).take(4000) {
-        let shelf = shelves[(random >> 61) as usize % 6];
-        let good = 32768 - (random >> 32) % 40 * 800;
-        turn(rt, &mut contents, spots, shelf, good)?;
-    }
-    Ok(())
 }
 
 #[test]
 fn random_turns(rt: HostRuntime) -> Result<(), Fail> {
     let mut memory = [0u64; WORDS];
-    let mut spots: Vec<Spot> = Vec::new(rt.alloc());
-    turns(&rt, &mut memory, &mut spots, 20261117)
-}
-
-// From a shelf of four goods goes the last, then the middle one, the first and the only one.
-fn orders(rt: &impl Abort, memory: &mut [u64], spots: &mut Vec<Spot>) -> Result<(), Fail> {
-    let mut contents = Contents { memory };
-    for good in [1u64, 2, 3, 4, 1, 3, 4, 2] {
-        turn(rt, &mut contents, spots, 7, good)?;
+    let shelves = [1u64, 2, 3, 511, 1023, 1024];
+    let mut both = Both {
+        contents: Contents {
+            memory: &mut memory[..],
+        },
+        spots: Vec::new(rt.alloc()),
+    };
+    for random in Random::new(20261117).take(4000) {
+        let shelf = shelves[(random >> 61) as usize % 6];
+        let good = 32768 - (random >> 32) % 40 * 800;
+        both.turn(&rt, shelf, good)?;
     }
     Ok(())
 }
 
+// From a shelf of four goods goes the last, then the middle one, the first and the only one.
 #[test]
 fn takes_from_each_end(rt: HostRuntime) -> Result<(), Fail> {
     let mut memory = [0u64; WORDS];
-    let mut spots: Vec<Spot> = Vec::new(rt.alloc());
-    orders(&rt, &mut memory, &mut spots)?;
-    assert!(rt; spots.is_empty());
+    let mut both = Both {
+        contents: Contents {
+            memory: &mut memory[..],
+        },
+        spots: Vec::new(rt.alloc()),
+    };
+    for good in [1u64, 2, 3, 4, 1, 3, 4, 2] {
+        both.turn(&rt, 7, good)?;
+    }
+    assert!(rt; both.spots.is_empty());
     Ok(())
 }
 

@@ -7,7 +7,7 @@ fn is_level(loads: &[u64]) -> bool {
 }
 
 // How many goods are moved in the hall with this number, where it is level. Its digits, to the base of how many shelves
-// there are, are the places of the goods.
+// there are, are the places of the goods; one pass over them counts loads and moves.
 fn moved_in(hall: u64, stood: &[Option<u64>], shelves: &[u64]) -> Option<u64> {
     let base = shelves.len() as u64;
     let mut rest = hall;

@@ -29,7 +29,7 @@ impl Answers {
     }
 }
 
-// Most often to go on, since that is what leads on; and kind 6, which there is not.
+// Most often to go on, since that is what leads on; and kind 6, which there is not, so that it is a number and no `Kind`.
 fn any_kind(chance: &mut Chance) -> u64 {
     match chance.below(12) {
         kind @ 0..=4 => kind,
