@@ -105,7 +105,8 @@ pub fn carried(before: &Assignment, after: &Assignment) -> u64
     changed(before.spots(), after.spots())
 }
 
-// Goes through both lists side by side: each turn passes the smaller good, or the same good in both.
+// Goes through both lists side by side: each turn passes the smaller good, or the same good in both. One count for two
+// lists that end apart: no iterator of one of them has it.
 fn changed(mut before: &[Spot], mut after: &[Spot]) -> u64
     requires before_ascends { ascends before.now ≡ true }
     requires after_ascends { ascends after.now ≡ true }

@@ -21,7 +21,8 @@ pub enum Trouble {
     Flawed { flaw: Flaw, step: usize },
 }
 
-// Carries out one command, and writes what is put, or why it is refused.
+// Carries out one command, and writes what is put, or why it is refused. Heap and output are handed down through three
+// functions: a struct of both would be made once and taken apart once.
 fn carry_out<W: Write>(
     heap: Global,
     hall: &mut Hall,

@@ -20,6 +20,7 @@ const HEAD: &str =
 <path d=\"M80 50V410H780\" fill=\"none\" stroke=\"#444\"/>
 ";
 
+// In the order of the contests.
 const COLOURS: [&str; 4] = ["#d62728", "#1f77b4", "#2ca02c", "#ff7f0e"];
 
 const OURS: &str = "#000000";

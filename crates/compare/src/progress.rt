@@ -9,7 +9,7 @@ const STRIDE: usize = 256;
 pub struct Progress {
     // When the pass began; none where nobody would see the line.
     start: Option<Instant>,
-    // Whether a line stands there that `end` has to take away.
+    // Whether a line stands there that `end` has to take away: with a start there may be one or none.
     shown: bool,
 }
 

@@ -137,6 +137,18 @@ impl<'a> Iterator for Walk<'a> {
     }
 }
 
+#[tactic(auto, using(contents_model::proofs::Laws::walk_law), unfolding(contents_model::specs::Model::walk, crate::specs::View::shown))]
+fn walk_of<'a>(memory: &'a [u64], shelf: u64) -> Walk<'a>
+    ensures is { shown result ≡ walk memory.now shelf }
+    ensures exactly { Sound memory.now → 0 < shelf → Exactly memory.now shelf (shown result) }
+{
+    Walk {
+        memory,
+        at: first_at(memory, shelf),
+        left: rows(memory),
+    }
+}
+
 // The region as it is lent: a `&[u64]` is enough to read, a `&mut [u64]` may be changed.
 #[derive(Drop)]
 pub struct Contents<M> {
@@ -166,17 +178,11 @@ impl<M: AsSlice<u64>> Contents<M> {
     }
 
     // The goods of a shelf, from the first on.
-    #[tactic(auto, using(contents_model::proofs::Laws::walk_law), unfolding(contents_model::specs::Model::walk, crate::specs::View::shown))]
     pub fn walk(&self, shelf: u64) -> Walk<'_>
         ensures is { shown result ≡ walk (M.items self.now.memory) shelf }
         ensures exactly { Sound (M.items self.now.memory) → 0 < shelf → Exactly (M.items self.now.memory) shelf (shown result) }
     {
-        let memory = self.memory.as_slice();
-        Walk {
-            memory,
-            at: first_at(memory, shelf),
-            left: rows(memory),
-        }
+        walk_of(self.memory.as_slice(), shelf)
     }
 
     // How many goods are on a shelf.
@@ -184,6 +190,16 @@ impl<M: AsSlice<u64>> Contents<M> {
         ensures { result ≡ length (walk (M.items self.now.memory) shelf) }
     {
         self.walk(shelf).count() as u64
+    }
+}
+
+impl<'a> Contents<&'a [u64]> {
+    // The goods of a shelf, from the first on, for as long as the words are lent.
+    pub fn into_walk(self, shelf: u64) -> Walk<'a>
+        ensures is { shown result ≡ walk self.entry.memory.now shelf }
+        ensures exactly { Sound self.entry.memory.now → 0 < shelf → Exactly self.entry.memory.now shelf (shown result) }
+    {
+        walk_of(self.memory, shelf)
     }
 }
 

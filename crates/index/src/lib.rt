@@ -96,7 +96,8 @@ fn row<const BITS: u64>(slot: u64) -> u64
     heads::<BITS>() + 3 + 3 * slot
 }
 
-// One of a slot's two links. The side is a bit of a key, and no enum: it is added to the place.
+// One of a slot's two links. The side is a bit of a key, and no enum: it is added to the place. A slot is a plain number
+// below 2^60: a type that holds the bound would be put on at each word that is read, and taken off at each that is written.
 fn child<const BITS: u64>(slot: u64, side: u64) -> u64
     requires { (slot < 2 ^ 60) × (side < 2) }
     ensures is { result ≡ child BITS slot side }
@@ -159,7 +160,7 @@ impl<M: AsSlice<u64>, const BITS: u64> Index<M, BITS> {
         if value <= self.capacity() { value } else { 0 }
     }
 
-    // The slot that hangs at a link, or 0: it is written back into a link, where 0 is none.
+    // The slot that hangs at a link, or 0: it is written back into a link, or its own links are read, where 0 is none.
     #[tactic(auto, unfolding(index_model::specs::Model::slot_at, index_model::specs::Model::slot_of))]
     fn slot_or_zero(&self, link: u64) -> u64
         ensures is { result ≡ slot_at BITS (M.items self.now.memory) link }
@@ -234,7 +235,7 @@ impl<M: AsSlice<u64>, const BITS: u64> Index<M, BITS> {
     fn lower(&self, place: u64) -> Option<u64>
         ensures { result ≡ some_slot (lower BITS (slot_at BITS (M.items self.now.memory)) place) }
     {
-        // Not a `find` over both links: the search proves nothing of a closure in generic code.
+        // Not a `find` over both links: of a closure that holds `self` in generic code the search proves nothing.
         let slot = self.slot_or_zero(place);
         let left = child::<BITS>(slot, 0);
         if self.slot_at(left).is_some() {

@@ -186,7 +186,7 @@ impl Machine<'_> {
         })
     }
 
-    // Goes on with the command that is under way.
+    // Goes on with the command that is under way. Its phase is a word of the memory, so it chooses the turn by a `match`.
     fn go_on(&mut self) -> Act
         ensures { Takes self.old result self.new (goes_on parts (state_of self.old)) }
     {

@@ -69,6 +69,7 @@ fn points_of(heap: Global, shelves: &[u64]) -> Result<Vec<Point>, AllocError>
             })?;
         }
     }
+    // In place: points that are equal are alike in all they hold, and a stable sort allocates.
     points.sort_unstable();
     Ok(points)
 }

@@ -50,7 +50,7 @@ impl<R: Rule> Rival<R> {
     // Without memory nothing changes.
     pub fn good_comes(&mut self, good: u64) -> Result<(), AllocError>
         ensures { MatchResult result
-            (λ _. (s : Option ℕ) × R.gives self.old.rule good s × Placed self.old.assignment self.new.assignment good s)
+            (λ _. (s : Option ℕ) × OneOf (R.shelves self.old.rule) s × R.gives self.old.rule good s × Placed self.old.assignment self.new.assignment good s)
             (λ _. self.new ≡ self.old) }
     {
         let Some(shelf) = self.shelf_for(good) else {

@@ -101,8 +101,6 @@ impl<'a> Iterator for Steps<'a> {
 }
 
 // What is written for a list of commands is read back as that list.
-pub fn round_trip_stands() -> u8
+pub fn round_trip_stands()
     ensures { RoundTrip }
-{
-    0
-}
+{}

@@ -1,16 +1,11 @@
 // The contents of shelves, beside a plain list of goods and their shelves.
 use crate::random::Random;
 use contents::*;
+use placing::Spot;
 use std::process::Abort;
 use std::test::Fail;
 
 const WORDS: usize = 99332;
-
-#[derive(Copy, Clone)]
-struct Spot {
-    shelf: u64,
-    good: u64,
-}
 
 // The contents, and a plain list of the same goods; the newest is last.
 #[derive(Drop)]

@@ -11,7 +11,8 @@ fn is_level(loads: &[u64]) -> bool {
 fn moved_in(hall: u64, stood: &[Option<u64>], shelves: &[u64]) -> Option<u64> {
     let base = shelves.len() as u64;
     let mut rest = hall;
-    let mut loads = [0u64; 4];
+    let mut most = [0u64; 4];
+    let loads = most.get_mut(..shelves.len())?;
     let mut moved = 0u64;
     for before in stood {
         let place = rest.checked_rem(base)? as usize;
@@ -22,7 +23,7 @@ fn moved_in(hall: u64, stood: &[Option<u64>], shelves: &[u64]) -> Option<u64> {
             moved = moved.saturating_add(1);
         }
     }
-    is_level(loads.get(..shelves.len())?).then_some(moved)
+    is_level(loads).then_some(moved)
 }
 
 // The fewest goods that are moved in any level hall on these shelves, four at most, where each good stood on the shelf

@@ -11,7 +11,7 @@ pub struct Chance {
 // The generator adds this to its state before it mixes it.
 const STEP: u64 = 0x9e37_79b9_7f4a_7c15;
 
-// A bijection of 64 bits that leaves no pattern.
+// A bijection of 64 bits that leaves no pattern. The generator mixes what its state is after a step, which is taken back here.
 fn mix(number: u64) -> u64 {
     SplitMix64::seed_from_u64(number.wrapping_sub(STEP)).next_u64()
 }

@@ -91,6 +91,7 @@ struct Run {
 }
 
 impl Tally {
+    // No `Default`: the map is made on the heap.
     fn new(heap: Global) -> Tally {
         Tally {
             steps: 0,

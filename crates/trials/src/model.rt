@@ -86,7 +86,7 @@ impl Model {
         match command {
             Command::GoodComes(_) | Command::WhereIs(_) => 1,
             Command::GoodGoes(good) => {
-                let load = self.load(self.shelf(good).unwrap_or(0));
+                let load = self.shelf(good).map_or(0, |shelf| self.load(shelf));
                 u64::from(self.highest_load() > load)
             }
             Command::ShelfComes(_) => goods.checked_div(shelves.saturating_add(1)).unwrap_or(0),

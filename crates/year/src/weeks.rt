@@ -24,17 +24,16 @@ struct Story {
     chance: SplitMix64,
 }
 
-// The generator adds this to its state at each number; the first number of a year is the second after the seed.
-const STEP: u64 = 0x9e37_79b9_7f4a_7c15;
-
 pub fn year(heap: Global, plan: &Plan) -> Result<Vec<Command>, AllocError> {
     let mut story = Story {
         commands: Vec::new(heap),
         goods: Vec::new(heap),
         shelves: Vec::new(heap),
         next: 1,
-        chance: SplitMix64::seed_from_u64(plan.seed.wrapping_add(STEP)),
+        chance: SplitMix64::seed_from_u64(plan.seed),
     };
+    // The first number of a year is the second after its seed.
+    let _ = story.random();
     for _ in 0..plan.shelves {
         story.shelf_comes()?;
     }
