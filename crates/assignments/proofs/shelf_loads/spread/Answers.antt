@@ -20,8 +20,5 @@ loads_differ c =
     (YieldsList-from_map _ load (YieldsList-from_slice c.args.shelves.now cc) c.map.ensures.closure (λ x r q k. search (rules, of_calls))) in
     rw (c.unwrap_or.ensures, c.unwrap_or-2.ensures) (differ load c.args.shelves.now _ _ least greatest)
 
-pub overflow_sub-result : goal.overflow_sub-result
-overflow_sub-result c = (loads_differ c).order
-
 pub returns : goal.returns
 returns c = let d = loads_differ c in record { bound = d.bound; tight = d.tight }
