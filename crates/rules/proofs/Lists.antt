@@ -3,6 +3,7 @@ use Rattle.std.proofs.Common.{◌≡◌, ℕ, zero, suc, ◌<◌, ◌≢◌, tru
 use Rattle.std.specs.List.{AllWithin, HoldsAt}
 use Rattle.std.specs.List.Sorted.{IsPermutation}
 use Rattle.std.proofs.lemmas.Bool.{false≢true}
+use Rattle.std.proofs.lemmas.List.{get_or_default}
 use Rattle.std.proofs.lemmas.Bool.Decides.{nat_tests}
 use Rattle.hall.specs.House.{any, has}
 use Rattle.rules.specs.Shelves.{Goes}
@@ -16,10 +17,7 @@ has_item (j ∷ ks) (suc i) k lt e = let ih : has ks k ≡ true = has_item ks i 
 
 -- the same of a slice
 pub has_at : (ks : List ℕ) (i : ℕ) → i < length ks → has ks (slice_index_or ks i 0) ≡ true
-unfolding any
-has_at [] i lt = absurd (omega arith)
-has_at (j ∷ ks) zero lt = grind (arith, nat_tests)
-has_at (j ∷ ks) (suc i) lt = let ih : has ks (slice_index_or ks i 0) ≡ true = has_at ks i (omega arith) in grind arith
+has_at ks i lt = has_item ks i _ lt (get_or_default _ _ _ _ lt)
 
 has_none : (ks : List ℕ) (k : ℕ) → ((i : ℕ) → i < length ks → get_or ks i 0 ≢ k) → has ks k ≡ false
 unfolding any
