@@ -1,7 +1,6 @@
 -- The least and the greatest of a function over a list, and by how much they differ.
-use Rattle.std.proofs.Common.{◌≡◌, ℕ, ◌+◌, ◌-◌, ◌≤◌, min, max, Bool, true, ◌&&◌, eqb, leb, List, [], ◌∷◌, map, fold, Option, refl, ap, arith}
-use Rattle.std.specs.Option.{unwrap_or}
-use Rattle.std.specs.List.{reduce, AllByRecursion as All}
+use Rattle.std.proofs.Common.{◌≡◌, ℕ, ◌+◌, ◌-◌, ◌≤◌, min, max, Bool, true, ◌&&◌, eqb, leb, List, [], ◌∷◌, length, map, fold, refl, ap, ◌∙◌, arith}
+use Rattle.std.specs.List.{AllByRecursion as All}
 use Rattle.std.proofs.lemmas.Bool.Decides.{nat_tests}
 use Rattle.hall.specs.House.{or, any, every, none_of}
 use Rattle.hall.proofs.Lists.{all_every, all_weak}
@@ -76,10 +75,22 @@ pub record Differ (f : ℕ → ℕ) (ks : List ℕ) (l g : ℕ) : Type 0 where
 or_first : (a b : Bool) → a ≡ true → or a b ≡ true
 or_first a b e = ap (λ x. or x b) e
 
-pub differ : (f : ℕ → ℕ) (ks : List ℕ) (least greatest : Option ℕ) → least ≡ reduce min (map f ks) → greatest ≡ reduce max (map f ks) →
-    Differ f ks (unwrap_or least 0) (unwrap_or greatest 0)
+-- nothing differs where there is nothing
+pub differ_none : (f : ℕ → ℕ) (ks : List ℕ) → length ks ≡ 0 → Differ f ks 0 0
 unfolding any every none_of
-differ f [] least greatest el eg = rw (el, eg) (record { order = omega arith; bound = refl; tight = refl })
-differ f (k ∷ ks) least greatest el eg =
+differ_none f [] e = record { order = omega arith; bound = refl; tight = refl }
+differ_none f (k ∷ ks) e = absurd (omega arith)
+
+-- the least and the greatest so far, and one value more
+abbrev pub widened : ℕ × ℕ → ℕ → ℕ × ℕ
+widened ends n = (min ends.0 n, max ends.1 n)
+
+both : (l g : ℕ) (ns : List ℕ) → fold widened (l, g) ns ≡ (fold min l ns, fold max g ns)
+both l g [] = refl
+both l g (n ∷ ns) = both (min l n) (max g n) ns
+
+-- one pass over the values gives both ends
+pub differ : (f : ℕ → ℕ) (k : ℕ) (ks : List ℕ) (m : ℕ) (ends : ℕ × ℕ) → m ≡ f k → ends ≡ fold widened (m, m) (map f ks) → Differ f (k ∷ ks) ends.0 ends.1
+differ f k ks m ends first e =
     let b = bounded f k ks in
-    rw (el, eg) (record { order = b.order; bound = bounds_all f (k ∷ ks) _ _ b; tight = or_first _ _ (bounds_reached f (k ∷ ks) _ _ b) })
+    rw (e ∙ ap (λ n. fold widened (n, n) (map f ks)) first ∙ both (f k) (f k) (map f ks)) (record { order = b.order; bound = bounds_all f (k ∷ ks) _ _ b; tight = or_first _ _ (bounds_reached f (k ∷ ks) _ _ b) })

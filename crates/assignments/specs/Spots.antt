@@ -1,5 +1,5 @@
 -- What a list of spots means in the theory of stores, and the order that an assignment keeps.
-use Rattle.std.specs.Prelude.{◌≡◌, ℕ, ◌<◌, ◌≤◌, Bool, true, ◌&&◌, ◌≢◌, List, [], ◌∷◌, length, nat_lt, slice_index_or}
+use Rattle.std.specs.Prelude.{◌≡◌, ℕ, ◌<◌, ◌≤◌, Bool, true, ◌&&◌, ◌≢◌, List, [], ◌∷◌, length, nat_lt, slice_index_or, slice_set}
 use Rattle.placing.specs.declared.acts.Spot.{Spot}
 use Rattle.hall.specs.House as house
 use Rattle.hall.specs.House.{Store, each, every, shelf_of}
@@ -27,6 +27,10 @@ ascends (p ∷ ps) = above p.good ps && ascends ps
 -- what stands where a list has ended
 abbrev pub zeros : Spot
 zeros = record { good = 0; shelf = 0 }
+
+-- the good at a place is on this shelf; past the end nothing changes
+abbrev pub moved_at : List Spot → ℕ → ℕ → List Spot
+moved_at ps i k = slice_set ps i (record { good = (slice_index_or ps i zeros).good; shelf = k })
 
 -- the place of a good in an ascending list: smaller ones before it, and no smaller one from it on
 pub record Place (g : ℕ) (ps : List Spot) (i : ℕ) : Type 0 where

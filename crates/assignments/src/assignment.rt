@@ -2,12 +2,11 @@
 ghost use Rattle.std.specs.Prelude.{◌≡◌, ℕ, true, List, [], ◌∷◌, MatchResult, ◌==◌};
 ghost use Rattle.std.specs.Option.{option_to_list};
 ghost use Rattle.hall.specs.House.{pick};
-ghost use Rattle.assignments.specs.Spots.{shelf_in, ascends, Here, Gap};
+ghost use Rattle.assignments.specs.Spots.{shelf_in, ascends, moved_at, Here, Gap};
 ghost use Rattle.assignments.specs.Carried.{Carried};
 
 use placing::Spot;
 use std::alloc::{AllocError, Global};
-use std::cmp::Ordering;
 use std::marker::Model;
 
 // Where each good is, in ascending order of the goods.
@@ -28,12 +27,13 @@ impl Model for Assignment {
     ghost invariant = { λ a. ascends a.spots.items ≡ true };
 }
 
-// By hand, so that it promises an equal value; a derived one promises clones of the fields.
+// By hand, so that it promises an equal value and copies the spots at one stroke; a derived one promises clones of the
+// fields, and clones spot after spot.
 impl Clone for Assignment {
     ghost is_clone = { λ a b. b ≡ a };
 
     fn clone(&self) -> Result<Assignment, AllocError> {
-        let spots = self.spots.clone()?;
+        let spots = Vec::from_slice(*self.spots.allocator(), self.spots())?;
         Ok(Assignment { spots })
     }
 }
@@ -81,6 +81,15 @@ impl Assignment {
         }
     }
 
+    // The good at a place in the list is on this shelf from now on; past the last one nothing changes.
+    pub fn reassign(&mut self, place: usize, shelf: u64)
+        ensures { self.new ≡ moved_at self.old place shelf }
+    {
+        if place < self.spots.len() {
+            self.spots[place].shelf = shelf;
+        }
+    }
+
     // Takes a good away, where it is there.
     pub fn remove(&mut self, good: u64)
         ensures { (g : ℕ) → shelf_in self.new g ≡ pick (g == good) [] (shelf_in self.old g) }
@@ -117,16 +126,17 @@ fn changed(mut before: &[Spot], mut after: &[Spot]) -> u64
         before.split_first(),
         after.split_first(),
     ) {
-        match first.good.cmp(&second.good) {
-            Ordering::Less => before = rest,
-            Ordering::Greater => after = others,
-            Ordering::Equal => {
-                if first.shelf != second.shelf {
-                    count += 1;
-                }
-                before = rest;
-                after = others;
+        // By two tests: on the answer of `cmp` the next turn waits, and takes twice the time.
+        if first.good < second.good {
+            before = rest;
+        } else if second.good < first.good {
+            after = others;
+        } else {
+            if first.shelf != second.shelf {
+                count += 1;
             }
+            before = rest;
+            after = others;
         }
     }
     count

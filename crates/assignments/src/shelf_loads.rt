@@ -14,14 +14,25 @@ pub fn spread(assignment: &Assignment, shelves: &[u64]) -> u64
     ensures tight { or (reached (store shelves.now assignment.now) result) (none_of shelves.now && result == 0) ≡ true }
 {
     let spots = assignment.spots();
-    let greatest = shelves.iter().map(|shelf| load(spots, *shelf)).max();
-    let least = shelves.iter().map(|shelf| load(spots, *shelf)).min();
-    greatest.unwrap_or(0) - least.unwrap_or(0)
+    let Some((first, others)) = shelves.split_first() else {
+        return 0;
+    };
+    // A load takes a pass over all goods, so each is counted once, for both ends.
+    let start = load(spots, *first);
+    let (least, greatest) = others.iter().map(|shelf| load(spots, *shelf)).fold(
+        (start, start),
+        |(least, greatest), goods| (least.min(goods), greatest.max(goods)),
+    );
+    greatest - least
 }
 
 // How many goods are on a shelf.
 fn load(spots: &[Spot], shelf: u64) -> u64
     ensures { result ≡ house.load (store [] spots.now) shelf }
 {
-    spots.iter().filter(|spot| spot.shelf == shelf).count() as u64
+    // No `filter` and `count`: of one pass without a branch a turn takes less than half the time.
+    spots
+        .iter()
+        .map(|spot| u64::from(spot.shelf == shelf))
+        .sum()
 }

@@ -47,24 +47,32 @@ fn asked(rt: &(impl Env + AllocGlobal)) -> Result<Call, Misuse> {
     call_of(env::args(rt)?)
 }
 
-fn carry(rt: &HostRuntime, file: &str) -> Result<(), Trouble> {
-    let bytes = fs::read(rt, file).map_err(Trouble::Unread)?;
-    let Ok(mut out) = BufWriter::new(rt.alloc(), rt.stdout()) else {
-        return Err(Trouble::NoMemory(AllocError));
-    };
-    run(rt.alloc(), bytes.as_slice(), &mut out)
-}
-
 fn tell(rt: &HostRuntime, what: &impl fmt::Display) {
     let _ = eprintln!(rt; "carry: {what}");
+}
+
+fn tell_trouble(rt: &HostRuntime, file: &str, trouble: &Trouble) {
+    tell(rt, &format_args!("{file}: {trouble}"));
+}
+
+// Trouble is told before `out` goes, since that tries once more to write what is left.
+fn carry(rt: &HostRuntime, file: &str) -> Result<(), Trouble> {
+    let bytes = fs::read(rt, file)
+        .map_err(Trouble::Unread)
+        .inspect_err(|trouble| tell_trouble(rt, file, trouble))?;
+    let Ok(mut out) = BufWriter::new(rt.alloc(), rt.stdout()) else {
+        tell_trouble(rt, file, &Trouble::NoMemory(AllocError));
+        return Err(Trouble::NoMemory(AllocError));
+    };
+    run(rt.alloc(), bytes.as_slice(), &mut out).inspect_err(|trouble| tell_trouble(
+        rt, file, trouble,
+    ))
 }
 
 fn main(rt: HostRuntime) -> ExitCode {
     match asked(&rt) {
         Ok(Call::Help) => code(println!(rt; "{HELP}")),
-        Ok(Call::Carry(file)) => code(carry(&rt, file.as_str()).inspect_err(|trouble| {
-            tell(&rt, &format_args!("{file}: {trouble}"));
-        })),
+        Ok(Call::Carry(file)) => code(carry(&rt, file.as_str())),
         Err(misuse) => {
             tell(&rt, &format_args!("{misuse}\n{USAGE}"));
             ExitCode::FAILURE

@@ -3,6 +3,7 @@ ghost use Rattle.rules.specs.Shelves.{OneOf};
 
 use crate::{Rule, mix};
 use std::alloc::{AllocError, Global};
+use std::marker::Model;
 
 // The shelves are in order of arrival, and the last takes the place of one that goes.
 #[derive(Drop)]
@@ -10,8 +11,16 @@ pub struct Jump {
     shelves: Vec<u64>,
 }
 
+impl Model for Jump {
+    ghost use Rattle.std.specs.Prelude.{ℕ, List};
+
+    ghost Value = { List ℕ };
+
+    ghost view = { λ r. r.shelves.items };
+}
+
 impl Rule for Jump {
-    ghost shelves = { λ r. r.shelves.items };
+    ghost shelves = { λ r. r };
 
     const NAME: &'static str = "jump";
 
@@ -34,17 +43,27 @@ impl Rule for Jump {
     }
 
     fn with(&self, heap: Global, shelf: u64) -> Result<Jump, AllocError> {
-        let mut list = Vec::from_slice(heap, self.shelves())?;
-        list.push(shelf)?;
-        Ok(Jump { shelves: list })
+        let mut rule = Jump::of(heap, Vec::from_slice(heap, self.shelves())?)?;
+        rule.shelf_comes(heap, shelf)?;
+        Ok(rule)
     }
 
     fn without(&self, heap: Global, shelf: u64) -> Result<Jump, AllocError> {
-        let mut list = Vec::from_slice(heap, self.shelves())?;
+        let mut rule = Jump::of(heap, Vec::from_slice(heap, self.shelves())?)?;
+        rule.shelf_goes(heap, shelf)?;
+        Ok(rule)
+    }
+
+    fn shelf_comes(&mut self, _heap: Global, shelf: u64) -> Result<(), AllocError> {
+        self.shelves.push(shelf)?;
+        Ok(())
+    }
+
+    fn shelf_goes(&mut self, _heap: Global, shelf: u64) -> Result<(), AllocError> {
         if let Some(place) = self.shelves.iter().position(|other| *other == shelf) {
-            let _ = list.swap_remove(place);
+            let _ = self.shelves.swap_remove(place);
         }
-        Ok(Jump { shelves: list })
+        Ok(())
     }
 }
 

@@ -2,17 +2,27 @@
 ghost use Rattle.rules.specs.Shelves.{OneOf, AtRemainder};
 
 use crate::Rule;
+use crate::rule::{insert, remove};
 use std::alloc::{AllocError, Global};
+use std::marker::Model;
 
 #[derive(Drop)]
 pub struct Remainders {
     shelves: Vec<u64>,
 }
 
-impl Rule for Remainders {
-    ghost shelves = { λ r. r.shelves.items };
+impl Model for Remainders {
+    ghost use Rattle.std.specs.Prelude.{ℕ, List};
 
-    ghost gives = { λ r g s. AtRemainder r.shelves.items g s };
+    ghost Value = { List ℕ };
+
+    ghost view = { λ r. r.shelves.items };
+}
+
+impl Rule for Remainders {
+    ghost shelves = { λ r. r };
+
+    ghost gives = { λ r g s. AtRemainder r g s };
 
     const NAME: &'static str = "remainders";
 
@@ -32,6 +42,15 @@ impl Rule for Remainders {
 
     fn shelf_for(&self, good: u64) -> Option<u64> {
         by_remainder(self.shelves.as_slice(), good)
+    }
+
+    fn shelf_comes(&mut self, _heap: Global, shelf: u64) -> Result<(), AllocError> {
+        insert(&mut self.shelves, shelf)
+    }
+
+    fn shelf_goes(&mut self, _heap: Global, shelf: u64) -> Result<(), AllocError> {
+        remove(&mut self.shelves, shelf);
+        Ok(())
     }
 }
 

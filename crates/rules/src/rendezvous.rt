@@ -1,16 +1,26 @@
 // By rendezvous hashing: the shelf whose hash together with the good is the greatest.
 ghost use Rattle.rules.specs.Shelves.{OneOf};
 
+use crate::rule::{insert, remove};
 use crate::{Rule, mix};
 use std::alloc::{AllocError, Global};
+use std::marker::Model;
 
 #[derive(Drop)]
 pub struct Rendezvous {
     shelves: Vec<u64>,
 }
 
+impl Model for Rendezvous {
+    ghost use Rattle.std.specs.Prelude.{ℕ, List};
+
+    ghost Value = { List ℕ };
+
+    ghost view = { λ r. r.shelves.items };
+}
+
 impl Rule for Rendezvous {
-    ghost shelves = { λ r. r.shelves.items };
+    ghost shelves = { λ r. r };
 
     const NAME: &'static str = "rendezvous";
 
@@ -30,6 +40,15 @@ impl Rule for Rendezvous {
 
     fn shelf_for(&self, good: u64) -> Option<u64> {
         by_rendezvous(self.shelves.as_slice(), good)
+    }
+
+    fn shelf_comes(&mut self, _heap: Global, shelf: u64) -> Result<(), AllocError> {
+        insert(&mut self.shelves, shelf)
+    }
+
+    fn shelf_goes(&mut self, _heap: Global, shelf: u64) -> Result<(), AllocError> {
+        remove(&mut self.shelves, shelf);
+        Ok(())
     }
 }
 

@@ -70,8 +70,9 @@ impl<R: Rule> Rival<R> {
         ensures goods { MatchResult result (Carried self.old.assignment self.new.assignment) (λ _. self.new ≡ self.old) }
         ensures shelves { IfOk result (λ _. Comes shelf (R.shelves self.old.rule) (R.shelves self.new.rule)) }
     {
-        let rule = self.rule.with(heap, shelf)?;
-        self.change(heap, rule)
+        let next = self.assignment.clone()?;
+        self.rule.shelf_comes(heap, shelf)?;
+        Ok(self.assign(heap, next))
     }
 
     // A shelf goes: how many goods are carried. Without memory nothing changes.
@@ -79,33 +80,33 @@ impl<R: Rule> Rival<R> {
         ensures goods { MatchResult result (Carried self.old.assignment self.new.assignment) (λ _. self.new ≡ self.old) }
         ensures shelves { IfOk result (λ _. Goes shelf (R.shelves self.old.rule) (R.shelves self.new.rule)) }
     {
-        let rule = self.rule.without(heap, shelf)?;
-        self.change(heap, rule)
+        let next = self.assignment.clone()?;
+        self.rule.shelf_goes(heap, shelf)?;
+        Ok(self.assign(heap, next))
     }
 
-    // The rule has other shelves from now on: how many goods are carried. Without memory nothing changes.
-    fn change(&mut self, heap: Global, rule: R) -> Result<u64, AllocError>
-        ensures goods { MatchResult result (Carried self.old.assignment self.new.assignment) (λ _. self.new ≡ self.old) }
-        ensures rule { IfOk result (λ _. self.new.rule ≡ rule) }
+    // The goods are where the rule has them from now on: how many are carried.
+    fn assign(&mut self, heap: Global, copy: Assignment) -> u64
+        ensures goods { Carried self.old.assignment self.new.assignment result }
+        ensures rule { self.new.rule ≡ self.old.rule }
     {
-        let next = assigned(heap, &rule, self.assignment.spots())?;
+        let next = assigned(heap, &self.rule, self.assignment.spots(), copy);
         let count = carried(&self.assignment, &next);
-        self.rule = rule;
         self.assignment = next;
-        Ok(count)
+        count
     }
 }
 
-// Each of these goods, where the rule has it. By a `for`: each put may fail.
-fn assigned<R: Rule>(heap: Global, rule: &R, spots: &[Spot]) -> Result<Assignment, AllocError> {
-    let mut next = Assignment::new(heap);
-    for spot in spots {
+// These goods where the rule has them, written over a copy of them: once the rule has changed nothing may fail.
+fn assigned<R: Rule>(heap: Global, rule: &R, spots: &[Spot], copy: Assignment) -> Assignment {
+    if rule.shelves().is_empty() {
+        return Assignment::new(heap);
+    }
+    let mut next = copy;
+    for (place, spot) in spots.iter().enumerate() {
         if let Some(shelf) = rule.shelf_for(spot.good) {
-            next.put(Spot {
-                good: spot.good,
-                shelf,
-            })?;
+            next.reassign(place, shelf);
         }
     }
-    Ok(next)
+    next
 }

@@ -1,5 +1,5 @@
 // What a rule is: it has shelves, and gives each good one of them.
-ghost use Rattle.std.specs.Prelude.{◌≡◌, ℕ, List, [], ◌∷◌, Option, IfOk, ⊤};
+ghost use Rattle.std.specs.Prelude.{◌≡◌, ℕ, List, [], ◌∷◌, Option, IfOk, MatchResult, ⊤};
 ghost use Rattle.rules.specs.Shelves.{OneOf, Comes, Goes};
 
 use std::alloc::{AllocError, Global};
@@ -35,34 +35,52 @@ pub trait Rule: Drop {
     fn with(&self, heap: Global, shelf: u64) -> Result<Self, AllocError>
         ensures { IfOk result (λ r. Comes shelf (shelves self.now) (shelves r)) }
     {
-        Self::of(heap, inserted(heap, self.shelves(), shelf)?)
+        let mut list = Vec::from_slice(heap, self.shelves())?;
+        insert(&mut list, shelf)?;
+        Self::of(heap, list)
     }
 
     // The rule once a shelf has gone: the others stay in their order.
     fn without(&self, heap: Global, shelf: u64) -> Result<Self, AllocError>
         ensures { IfOk result (λ r. Goes shelf (shelves self.now) (shelves r)) }
     {
-        Self::of(heap, removed(heap, self.shelves(), shelf)?)
+        let mut list = Vec::from_slice(heap, self.shelves())?;
+        remove(&mut list, shelf);
+        Self::of(heap, list)
+    }
+
+    // A shelf comes. Without memory nothing changes. A rule that holds a list alone changes it in place: a copy would
+    // cost as much as there are shelves.
+    fn shelf_comes(&mut self, heap: Global, shelf: u64) -> Result<(), AllocError>
+        ensures { MatchResult result (λ _. Comes shelf (shelves self.old) (shelves self.new)) (λ _. self.new ≡ self.old) }
+    {
+        *self = self.with(heap, shelf)?;
+        Ok(())
+    }
+
+    // A shelf goes. Without memory nothing changes.
+    fn shelf_goes(&mut self, heap: Global, shelf: u64) -> Result<(), AllocError>
+        ensures { MatchResult result (λ _. Goes shelf (shelves self.old) (shelves self.new)) (λ _. self.new ≡ self.old) }
+    {
+        *self = self.without(heap, shelf)?;
+        Ok(())
     }
 }
 
-// An ascending list with one more.
-fn inserted(heap: Global, shelves: &[u64], shelf: u64) -> Result<Vec<u64>, AllocError>
-    ensures { IfOk result (λ list. Comes shelf shelves.now list.items) }
+// Puts a shelf into an ascending list. Without memory the list stays.
+pub(crate) fn insert(list: &mut Vec<u64>, shelf: u64) -> Result<(), AllocError>
+    ensures { MatchResult result (λ _. Comes shelf list.old.items list.new.items) (λ _. list.new.items ≡ list.old.items) }
 {
-    let mut list = Vec::from_slice(heap, shelves)?;
     let place = list.partition_point(|other| *other < shelf);
     list.insert(place, shelf)?;
-    Ok(list)
+    Ok(())
 }
 
-// A list without one, the others in their order.
-fn removed(heap: Global, shelves: &[u64], shelf: u64) -> Result<Vec<u64>, AllocError>
-    ensures { IfOk result (λ list. Goes shelf shelves.now list.items) }
+// Takes a shelf out of a list, the others in their order.
+pub(crate) fn remove(list: &mut Vec<u64>, shelf: u64)
+    ensures { Goes shelf list.old.items list.new.items }
 {
-    let mut list = Vec::from_slice(heap, shelves)?;
-    if let Some(place) = shelves.iter().position(|other| *other == shelf) {
+    if let Some(place) = list.iter().position(|other| *other == shelf) {
         let _ = list.remove(place);
     }
-    Ok(list)
 }

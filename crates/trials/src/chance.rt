@@ -3,9 +3,10 @@ use rand_core::{Rng, SeedableRng};
 use rand_xoshiro::SplitMix64;
 use std::fmt;
 
-#[derive(Drop)]
+// The state of a generator, and not the generator: that can't be copied.
+#[derive(Clone, Copy)]
 pub struct Chance {
-    words: SplitMix64,
+    state: u64,
 }
 
 // The generator adds this to its state before it mixes it.
@@ -18,13 +19,12 @@ fn mix(number: u64) -> u64 {
 
 impl Chance {
     pub fn new(seed: u64) -> Chance {
-        Chance {
-            words: SplitMix64::seed_from_u64(mix(seed)),
-        }
+        Chance { state: mix(seed) }
     }
 
     pub fn any(&mut self) -> u64 {
-        self.words.next_u64()
+        self.state = self.state.wrapping_add(STEP);
+        mix(self.state)
     }
 
     // A number below the limit, or 0 where the limit is 0.

@@ -3,8 +3,7 @@ use crate::chance::{Chance, Numbers};
 use crate::fault::Fault;
 use crate::trial::{End, Trial};
 use placing::{Command, Refusal};
-use std::alloc::{AllocError, Global};
-use std::collections::BTreeMap;
+use std::alloc::Global;
 
 // Steps of which so many of a thousand are of each kind; the rest asks where a good is.
 #[derive(Clone, Copy)]
@@ -63,14 +62,15 @@ const STRETCHES: [Stretch; 6] = [
 ];
 
 // What came up in a run.
-#[derive(Drop)]
+#[derive(Clone, Copy, Default)]
 pub struct Tally {
     pub steps: u64,
     pub puts: u64,
     pub done: u64,
     pub most_goods: usize,
     pub most_shelves: usize,
-    refusals: BTreeMap<Refusal, u64>,
+    // At the number of each refusal; no map, so that counting takes no memory.
+    refusals: [u64; 8],
 }
 
 // The step at which a fault came up.
@@ -91,19 +91,7 @@ struct Run {
 }
 
 impl Tally {
-    // No `Default`: the map is made on the heap.
-    fn new(heap: Global) -> Tally {
-        Tally {
-            steps: 0,
-            puts: 0,
-            done: 0,
-            most_goods: 0,
-            most_shelves: 0,
-            refusals: BTreeMap::new(heap),
-        }
-    }
-
-    fn note(&mut self, end: End) -> Result<(), AllocError> {
+    fn note(&mut self, end: End) {
         self.steps = self.steps.saturating_add(1);
         match end {
             Ok(puts) => {
@@ -111,16 +99,19 @@ impl Tally {
                 self.puts = self.puts.saturating_add(puts);
             }
             Err(why) => {
-                let count = self.refusals.entry(why)?.or_insert(0);
-                *count = count.saturating_add(1);
+                if let Some(count) = self.refusals.get_mut(u64::from(why) as usize) {
+                    *count = count.saturating_add(1);
+                }
             }
         }
-        Ok(())
     }
 
     // How many commands were refused so.
     pub fn refused(&self, why: Refusal) -> u64 {
-        self.refusals.get(&why).copied().unwrap_or(0)
+        self.refusals
+            .get(u64::from(why) as usize)
+            .copied()
+            .unwrap_or(0)
     }
 }
 
@@ -168,7 +159,7 @@ impl Run {
 
     fn step(&mut self, command: Command) -> Result<(), Fault> {
         let end = self.trial.step(command)?;
-        self.tally.note(end)?;
+        self.tally.note(end);
         self.tally.most_goods = self.tally.most_goods.max(self.trial.model.stands.len());
         self.tally.most_shelves = self.tally.most_shelves.max(self.trial.model.loads.len());
         Ok(())
@@ -210,7 +201,7 @@ pub fn long_run(heap: Global, numbers: Numbers, seed: u64) -> Result<Tally, Stop
         numbers,
         next_good: 0,
         next_shelf: 0,
-        tally: Tally::new(heap),
+        tally: Tally::default(),
     };
     run.all()?;
     Ok(run.tally)

@@ -113,10 +113,20 @@ fn long_halls(rt: &HostRuntime, numbers: Numbers, seed: u64) -> Result<(), Faile
     Ok(())
 }
 
+// The kind of garbage, as text: no `String`, so that to name it takes no memory.
+#[derive(Clone, Copy)]
+struct WordsBelow(u64);
+
+impl fmt::Display for WordsBelow {
+    fn fmt<W: fmt::Write>(&self, f: &mut fmt::Formatter<W>) -> fmt::Result {
+        write!(f, "words below {}", self.0)
+    }
+}
+
 // Three runs of one kind of garbage, each by another seed.
 fn print_garbage<F: Fn(u64) -> Result<Answers, AllocError> + Drop>(
     rt: &HostRuntime,
-    what: &str,
+    what: &impl fmt::Display,
     answers: F,
 ) -> Result<(), Failed>
     requires { F.IsAlwaysCallable answers }
@@ -136,12 +146,11 @@ fn all_trials(rt: &HostRuntime) -> Result<(), Failed> {
     long_halls(rt, Numbers::Highest, 4)?;
     let heap = rt.alloc();
     for limit in [5, 40000, u64::MAX] {
-        let what = format!(in heap; "words below {limit}")?;
-        print_garbage(rt, what.as_str(), move |seed| {
+        print_garbage(rt, &WordsBelow(limit), move |seed| {
             garbage(heap, seed, limit, 3000)
         })?;
     }
-    print_garbage(rt, "spoiled step by step", move |seed| {
+    print_garbage(rt, &"spoiled step by step", move |seed| {
         spoiled(heap, seed, 100000)
     })
 }

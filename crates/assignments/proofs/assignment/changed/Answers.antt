@@ -1,16 +1,15 @@
 -- Each turn counts what the walk's laws say.
 use Rattle.std.proofs.Common.{arith}
 use Rattle.std.proofs.lemmas.Bool.Decides.{nat_tests}
-use Rattle.std.proofs.lemmas.Cmp.{ranked}
 use Rattle.assignments.proofs.Walk.{rest_ascends, turn_left, turn_right, turn_both, ended_left, ended_right}
 use Rattle.assignments.proofs.assignment.changed.Goals as goal
 
-pub loop-first-preserved-in-Less : goal.loop-first-preserved-in-Less
-loop-first-preserved-in-Less c =
+pub loop-first-preserved-then-first-second : goal.loop-first-preserved-then-first-second
+loop-first-preserved-then-first-second c =
     let kept = c.loop-first.invariant in
     let left = c.in-Some-Some.ensures.cases in
     let right = c.in-Some-Some.ensures'.cases in
-    let turn = turn_left _ _ _ _ _ _ left.0 right.0 kept.before_ascends kept.after_ascends (ranked _ _ _ c.in-Less.ensures) in
+    let turn = turn_left _ _ _ _ _ _ left.0 right.0 kept.before_ascends kept.after_ascends (omega arith) in
     record {
       counted = omega (arith, kept.counted, turn);
       fits = omega arith;
@@ -18,12 +17,12 @@ loop-first-preserved-in-Less c =
       after_ascends = kept.after_ascends;
     }
 
-pub loop-first-preserved-in-Greater : goal.loop-first-preserved-in-Greater
-loop-first-preserved-in-Greater c =
+pub loop-first-preserved-then-second-first : goal.loop-first-preserved-then-second-first
+loop-first-preserved-then-second-first c =
     let kept = c.loop-first.invariant in
     let left = c.in-Some-Some.ensures.cases in
     let right = c.in-Some-Some.ensures'.cases in
-    let turn = turn_right _ _ _ _ _ _ left.0 right.0 kept.before_ascends (ranked _ _ _ c.in-Greater.ensures) in
+    let turn = turn_right _ _ _ _ _ _ left.0 right.0 kept.before_ascends (omega arith) in
     record {
       counted = omega (arith, kept.counted, turn);
       fits = kept.fits;
@@ -31,12 +30,12 @@ loop-first-preserved-in-Greater c =
       after_ascends = rest_ascends _ _ _ right.0 kept.after_ascends;
     }
 
-pub loop-first-preserved-then-first-second : goal.loop-first-preserved-then-first-second
-loop-first-preserved-then-first-second c =
+pub loop-first-preserved-then-first-second-2 : goal.loop-first-preserved-then-first-second-2
+loop-first-preserved-then-first-second-2 c =
     let kept = c.loop-first.invariant in
     let left = c.in-Some-Some.ensures.cases in
     let right = c.in-Some-Some.ensures'.cases in
-    let turn = turn_both _ _ _ _ _ _ left.0 right.0 kept.before_ascends (ranked _ _ _ c.in-Equal.ensures) in
+    let turn = turn_both _ _ _ _ _ _ left.0 right.0 kept.before_ascends (omega arith) in
     record {
       counted = grind (arith, nat_tests, kept.counted, turn);
       fits = omega arith;
@@ -49,7 +48,7 @@ loop-first-preserved c =
     let kept = c.loop-first.invariant in
     let left = c.in-Some-Some.ensures.cases in
     let right = c.in-Some-Some.ensures'.cases in
-    let turn = turn_both _ _ _ _ _ _ left.0 right.0 kept.before_ascends (ranked _ _ _ c.in-Equal.ensures) in
+    let turn = turn_both _ _ _ _ _ _ left.0 right.0 kept.before_ascends (omega arith) in
     record {
       counted = grind (arith, nat_tests, kept.counted, turn);
       fits = omega arith;
