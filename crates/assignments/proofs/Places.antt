@@ -1,10 +1,10 @@
 -- A good's place in an ascending list, and what an edit at that place makes of the list.
-use Rattle.std.proofs.Common.{◌≡◌, ℕ, zero, suc, ◌<◌, ◌≤◌, true, ◌&&◌, eqb, ◌≢◌, List, [], ◌∷◌, length, get_or, set, Ok, Err, Result, MatchResult, sym, refl, ap, ◌∙◌, arith}
+use Rattle.std.proofs.Common.{◌≡◌, ℕ, zero, suc, ◌<◌, ◌≤◌, true, false, ◌&&◌, eqb, ltb, ◌≢◌, List, [], ◌∷◌, length, get_or, set, Bool, Bor, sym, refl, ap, ◌∙◌, arith}
 use Rattle.std.specs.List.{insert, remove}
-use Rattle.std.specs.List.Sorted.{IsSearchInRange, IsBinarySearchResult, IsNonDecreasingBy}
-use Rattle.std.specs.Ordering.{nat_cmp, ordering_index}
-use Rattle.std.proofs.lemmas.Cmp.{ranked}
-use Rattle.std.proofs.lemmas.List.Sorted.{IsNonDecreasingBy-from_default}
+use Rattle.std.specs.List.Sorted.{IsPartitionedBy, IsPartitionPoint}
+use Rattle.std.specs.Fn.{Mut, ComputesKey, Called}
+use Rattle.std.proofs.lemmas.List.{get_or_default}
+use Rattle.std.proofs.lemmas.List.Sorted.{IsNonDecreasingBy-from_default, IsPartitionedBy-ltb, IsPartitionPoint-from_clause}
 use Rattle.std.proofs.lemmas.Bool.Decides.{nat_tests}
 use Rattle.std.proofs.lemmas.Bool.{eqb-true}
 use Rattle.words.proofs.Cases.{by_test}
@@ -26,35 +26,39 @@ climbs (p ∷ ps) i zero h le lt = omega arith
 climbs (p ∷ ps) zero (suc j) h le lt = above_at p.good ps j (head_above p ps h) (omega arith)
 climbs (p ∷ ps) (suc i) (suc j) h le lt = climbs ps i j (tail_ascends p ps h) (omega arith) (omega arith)
 
--- a binary search by the goods ends at the good, or where it would stand
+-- the smaller goods stand first, and where they end is the place of the good
 module _ (ps : List Spot) (up : ascends ps ≡ true) (g : ℕ) where
-  answers_rise : IsNonDecreasingBy (λ p. ordering_index (nat_cmp p.good g)) ps
-  answers_rise = IsNonDecreasingBy-from_default (λ p. ordering_index (nat_cmp p.good g)) ps zeros (λ i j le lt.
-      let rise : (get_or ps i zeros).good ≤ (get_or ps j zeros).good = grind (arith, climbs ps i j up, λ (same : i ≡ j). ap (λ k. (get_or ps k zeros).good) same)
-      in grind (arith, nat_tests))
+  pub parted : IsPartitionedBy (λ p. ltb p.good g) ps
+  parted = IsPartitionedBy-ltb (λ p. p.good) ps g (IsNonDecreasingBy-from_default (λ p. p.good) ps zeros (λ i j le lt.
+      grind (arith, climbs ps i j up, λ (same : i ≡ j). ap (λ k. (get_or ps k zeros).good) same)))
 
-  pub searched : (r : Result ℕ ℕ) → IsSearchInRange r (length ps) → IsBinarySearchResult (λ p. nat_cmp p.good g) ps r → MatchResult r (λ i. Here g ps i) (λ i. Gap g ps i)
-  searched (Ok i) lt equal =
-      let same : (get_or ps i zeros).good ≡ g = ranked _ g _ (sym (equal zeros)) in
-      record {
-        place = record {
-          within = omega arith;
-          low = λ k h. let up = climbs ps k i up h lt in omega arith;
-          high = λ k le h. grind (arith, climbs ps i k up, λ (q : i ≡ k). ap (λ k. (get_or ps k zeros).good) q);
-        };
-        inside = lt;
-        same = same;
-      }
-  searched (Err i) le parted =
-      let split = parted answers_rise in
-      record {
-        place = record {
-          within = le;
-          low = λ k h. ranked _ g _ (sym (split.0 k zeros (omega arith) h));
-          high = λ k h lt. let greater : g < (get_or ps k zeros).good = ranked _ g _ (sym (split.1 k zeros h lt)) in omega arith;
-        };
-        other = λ h. let greater : g < (get_or ps i zeros).good = ranked _ g _ (sym (split.1 i zeros (omega arith) h)) in omega arith;
-      }
+  pub place_at : (i : ℕ) → i ≤ length ps → IsPartitionPoint (λ p. ltb p.good g ≡ true) (λ p. ltb p.good g ≡ false) ps i → Place g ps i
+  place_at i le split = record {
+    within = le;
+    low = λ k h. let smaller = split.0 k zeros (omega arith) h in grind (arith, nat_tests);
+    high = λ k from h. let other = split.1 k zeros from h in grind (arith, nat_tests);
+  }
+
+-- the same of what `partition_point` says of a list that is this one
+pub placed_by : {F : Type 0} {test : Mut F (Bor Spot × Unit {0}) Bool} {f : F} (xs ps : List Spot) → xs ≡ ps → ascends ps ≡ true → (g i : ℕ) → i ≤ length xs →
+    ((q : Spot → Bool) → ComputesKey test q f → IsPartitionedBy q xs → IsPartitionPoint (λ y. q y ≡ true) (λ y. q y ≡ false) xs i) →
+    ((a : Bor Spot × Unit {0}) (r : Bool) (f' : F) → Called test f a r f' → (r ≡ ltb a.0.now.good g) × (f' ≡ f)) → Place g ps i
+placed_by xs ps same up g i le clause calls =
+    let split = IsPartitionPoint-from_clause (λ p. ltb p.good g) xs i clause (rw same (parted ps up g)) calls in
+    place_at ps up g i (rw same at le) (rw same at split)
+
+-- what stands at the place is the good, or it is not there
+pub here_at : (g : ℕ) (ps : List Spot) (i : ℕ) (p : Spot) → Place g ps i → i < length ps → p ≡ get_or ps i p → p.good ≡ g → Here g ps i
+here_at g ps i p place lt at same =
+    let stands : p ≡ get_or ps i zeros = at ∙ get_or_default ps i p zeros lt in
+    record { place = place; inside = lt; same = ap (λ q. q.good) (sym stands) ∙ same }
+
+pub gap_at : (g : ℕ) (ps : List Spot) (i : ℕ) (p : Spot) → Place g ps i → p ≡ get_or ps i p → p.good ≢ g → Gap g ps i
+gap_at g ps i p place at other =
+    record { place = place; other = λ lt same. other (ap (λ q. q.good) (at ∙ get_or_default ps i p zeros lt) ∙ same) }
+
+pub gap_past : (g : ℕ) (ps : List Spot) (i : ℕ) → Place g ps i → length ps ≤ i → Gap g ps i
+gap_past g ps i place past = record { place = place; other = λ lt. absurd (omega arith) }
 
 -- the rest of a list, without its first
 rest : (g : ℕ) (p : Spot) (ps : List Spot) (i : ℕ) → Place g (p ∷ ps) (suc i) → Place g ps i

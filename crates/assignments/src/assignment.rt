@@ -103,7 +103,11 @@ impl Assignment {
     fn find(&self, good: u64) -> Result<usize, usize>
         ensures { MatchResult result (λ i. Here good self.now i) (λ i. Gap good self.now i) }
     {
-        self.spots.binary_search_by_key(&good, |spot| spot.good)
+        let place = self.spots.partition_point(|spot| spot.good < good);
+        match self.spots.get(place) {
+            Some(spot) if spot.good == good => Ok(place),
+            _ => Err(place),
+        }
     }
 }
 

@@ -1,1 +1,2 @@
 -- The modules of these proofs.
+mod Row

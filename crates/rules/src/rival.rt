@@ -80,7 +80,13 @@ impl<R: Rule> Rival<R> {
         ensures goods { MatchResult result (Carried self.old.assignment self.new.assignment) (λ _. self.new ≡ self.old) }
         ensures shelves { IfOk result (λ _. Goes shelf (R.shelves self.old.rule) (R.shelves self.new.rule)) }
     {
-        let next = self.assignment.clone()?;
+        // Where the last shelf goes no good stays, and no copy is needed.
+        let last = self.shelves().len() == 1 && self.shelves().contains(&shelf);
+        let next = if last {
+            Assignment::new(heap)
+        } else {
+            self.assignment.clone()?
+        };
         self.rule.shelf_goes(heap, shelf)?;
         Ok(self.assign(heap, next))
     }

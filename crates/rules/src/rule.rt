@@ -4,8 +4,8 @@ ghost use Rattle.rules.specs.Shelves.{OneOf, Comes, Goes};
 
 use std::alloc::{AllocError, Global};
 
-// Three instances hold a list alone, and write `new`, `of` and `shelves` alike: one struct generic over the choice of a
-// shelf would need a second trait and a type for each choice, for three lines each.
+// Three instances hold a list alone, and write `new`, `of`, `shelves` and the changes in place alike: one struct generic
+// over the choice of a shelf would need a second trait and a type for each choice, for a line or two each.
 pub trait Rule: Drop {
     // Its shelves, in the order in which it has them.
     ghost shelves: { Self → List ℕ };

@@ -72,6 +72,40 @@ fn a_shelf_that_goes_leaves_the_others(rt: HostRuntime) -> Result<(), Fail> {
     leaves_the_others::<Ring>(&rt, rt.alloc())
 }
 
+// The rule with a shelf more, and one less, and the rule itself as it was.
+fn copies<R: Rule>(rt: &impl Abort, heap: Global) -> Result<(), Fail> {
+    let rule = R::new(heap).with(heap, 4)?.with(heap, 7)?;
+    let fewer = rule.without(heap, 4)?;
+    assert_eq!(rt; rule.shelves().len(), 2);
+    assert_eq!(rt; fewer.shelves().first().copied(), Some(7));
+    Ok(())
+}
+
+#[test]
+fn copies_with_a_shelf_and_without(rt: HostRuntime) -> Result<(), Fail> {
+    copies::<Remainders>(&rt, rt.alloc())?;
+    copies::<Rendezvous>(&rt, rt.alloc())?;
+    copies::<Jump>(&rt, rt.alloc())?;
+    copies::<Ring>(&rt, rt.alloc())
+}
+
+fn loses_all<R: Rule>(rt: &impl Abort, heap: Global) -> Result<(), Fail> {
+    let mut rival = filled::<R>(heap)?;
+    for shelf in 0..SHELVES {
+        let _ = rival.shelf_goes(heap, shelf)?;
+    }
+    assert_eq!(rt; rival.shelves().len(), 0);
+    assert_eq!(rt; rival.assignment().spots().len(), 0);
+    Ok(())
+}
+
+#[test]
+fn no_good_stays_without_a_shelf(rt: HostRuntime) -> Result<(), Fail> {
+    loses_all::<Remainders>(&rt, rt.alloc())?;
+    loses_all::<Jump>(&rt, rt.alloc())?;
+    loses_all::<Ring>(&rt, rt.alloc())
+}
+
 #[test]
 fn counts_of_two_goods(rt: HostRuntime) -> Result<(), Fail> {
     let heap = rt.alloc();

@@ -1,8 +1,8 @@
 -- The chain counts the goods that are on the shelf.
-use Rattle.std.proofs.Common.{◌≡◌, ℕ, ◌<◌, ◌^◌, eqb, cond, length, map, sym, ◌∙◌, rules, of_calls, arith}
-use Rattle.std.specs.List.{sum_by, count_by}
+use Rattle.std.proofs.Common.{ℕ, ◌<◌, ◌^◌, eqb, cond, map, sym, ◌∙◌, rules, of_calls, arith}
+use Rattle.std.specs.List.{sum_by}
 use Rattle.std.proofs.lemmas.List.Sums.{length-filter, count_by-le-length}
-use Rattle.std.proofs.lemmas.Iterator.{YieldsList, YieldsList-from_slice, YieldsList-from_map}
+use Rattle.std.proofs.lemmas.Iterator.{YieldsList-from_slice, YieldsList-from_map}
 use Rattle.std.proofs.lemmas.Iterator.Consumers.{sum_by_from_yields_List, fits_by_from_yields_list}
 use Rattle.placing.specs.declared.acts.Spot.{Spot}
 use Rattle.assignments.proofs.Counts.{load_filter}

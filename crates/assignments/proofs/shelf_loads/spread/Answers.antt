@@ -1,5 +1,5 @@
 -- The greatest load and the least say by how much the loads differ.
-use Rattle.std.proofs.Common.{◌≡◌, [], ◌∷◌, map, fold, ◌∙◌, sym, rules, of_calls}
+use Rattle.std.proofs.Common.{◌≡◌, [], ◌∷◌, map, fold, rules, of_calls}
 use Rattle.std.proofs.lemmas.Iterator.{YieldsList-from_slice, YieldsList-from_map}
 use Rattle.std.proofs.lemmas.Iterator.Consumers.{fold_from_yields_List}
 use Rattle.hall.specs.House as house

@@ -1,5 +1,5 @@
 -- The same goods, one of them on another shelf.
-use Rattle.std.proofs.Common.{◌≡◌, ◌<◌, length, sym, ap, ◌∙◌, rules, of_calls, arith}
+use Rattle.std.proofs.Common.{◌<◌, length, sym, ap, ◌∙◌, arith}
 use Rattle.std.proofs.lemmas.List.{get_or_default}
 use Rattle.assignments.proofs.Places.{ascends_set}
 use Rattle.assignments.proofs.assignment.Assignment.reassign.Goals as goal
