@@ -77,6 +77,7 @@ fn copies<R: Rule>(rt: &impl Abort, heap: Global) -> Result<(), Fail> {
     let rule = R::new(heap).with(heap, 4)?.with(heap, 7)?;
     let fewer = rule.without(heap, 4)?;
     assert_eq!(rt; rule.shelves().len(), 2);
+    assert_eq!(rt; fewer.shelves().len(), 1);
     assert_eq!(rt; fewer.shelves().first().copied(), Some(7));
     Ok(())
 }
@@ -102,8 +103,30 @@ fn loses_all<R: Rule>(rt: &impl Abort, heap: Global) -> Result<(), Fail> {
 #[test]
 fn no_good_stays_without_a_shelf(rt: HostRuntime) -> Result<(), Fail> {
     loses_all::<Remainders>(&rt, rt.alloc())?;
+    loses_all::<Rendezvous>(&rt, rt.alloc())?;
     loses_all::<Jump>(&rt, rt.alloc())?;
     loses_all::<Ring>(&rt, rt.alloc())
+}
+
+// A shelf that is not there goes: nothing changes, though there is one shelf alone.
+fn goes_in_vain<R: Rule>(rt: &impl Abort, heap: Global) -> Result<(), Fail> {
+    let mut rival = Rival::<R>::new(heap);
+    let _ = rival.shelf_comes(heap, 4)?;
+    rival.good_comes(1)?;
+    rival.good_comes(2)?;
+    assert_eq!(rt; rival.shelf_goes(heap, 7)?, 0);
+    assert_eq!(rt; rival.shelves().first().copied(), Some(4));
+    assert_eq!(rt; rival.assignment().shelf_of(1), Some(4));
+    assert_eq!(rt; rival.assignment().shelf_of(2), Some(4));
+    Ok(())
+}
+
+#[test]
+fn a_shelf_that_is_not_there_goes_in_vain(rt: HostRuntime) -> Result<(), Fail> {
+    goes_in_vain::<Remainders>(&rt, rt.alloc())?;
+    goes_in_vain::<Rendezvous>(&rt, rt.alloc())?;
+    goes_in_vain::<Jump>(&rt, rt.alloc())?;
+    goes_in_vain::<Ring>(&rt, rt.alloc())
 }
 
 #[test]
